@@ -168,8 +168,8 @@ pub hex-fits : (n : ℕ) → n ≡ 8 → radix Hex ^ n ≤ 4294967296
 unfolding radix
 hex-fits n h = rw h (omega arith)
 
--- a CRC
 module _ (s : List ℕ) where
+  -- a CRC
   pub readCrc-bad : readDecimal 5 s ≡ Malformed → Malformed ≡ readCrc s
   unfolding readCrc
   readCrc-bad e = rw e
@@ -199,8 +199,8 @@ module _ (s : List ℕ) where
         let n : i - 1 + 1 ≡ i = omega arith in
         rw (drop-one s (i - 1) (omega arith), n, e, q)
 
-    pub little-below : x < 256 → acc < 256 ^ (length s - i) → acc * 256 + x < 256 ^ (length s - (i - 1))
-    little-below g h =
+    pub little-turn : x < 256 → acc < 256 ^ (length s - i) → acc * 256 + x < 256 ^ (length s - (i - 1))
+    little-turn g h =
         let n : length s - (i - 1) ≡ length s - i + 1 = omega arith in
         rw n (below 256 (length s - i) acc x h g)
 

@@ -5,6 +5,7 @@ use mathlib.Core.List.{List, [], _∷_, _++_, append-assoc, append-nil}
 use mathlib.Core.Logic.{_⊎_, ⊎-elim}
 use Prim.Native.Nat.{ℕ, zero, suc, _+_, _-_, _*_, _/_, _%_, _^_, _≤_, _<_}
 use native.Mathlib.Nat.{zero-add, add-zero, pow-suc, pow-le-pow-right}
+use native.Mathlib.Numerals.{add-one}
 use native.Mathlib.Omega.{arith}
 use lib.ListN.{length, getD, length-append, List·getD-append}
 use borrow.Author.Tests.{lt-ltb, le-ltb, le-leb, lt-leb, ne-eqb, eqb-false, not-true, ltb-true}
@@ -16,9 +17,9 @@ use Rattle.fields.specs.Lists.{all, upTo}
 use Rattle.fields.specs.Canonical.{plain, isCapital, capitals, isByte}
 use Rattle.fields.specs.Reading.{radix, decimalDigit, hexDigit, digit, valueFrom, readDecimal, readSize, readCrc, readHex, littleValue, readLittle}
 use Rattle.fields.specs.Writing.{decimal, capital, hex, little}
-use Rattle.fields.proofs.Lists.{le-or-lt}
-use Rattle.fields.proofs.Writing.{decimal-small, decimal-more, decimal-some, hex-length}
-use Rattle.fields.proofs.Reading.{decimal-is, decimal-byte, hex-is, hex-upper, hex-low, hex-past-nine, hex-past-upper, hex-past-lower, value-none, value-one, value-digit, value-grows, readDecimal-is, readCrc-is, readHex-is, readLittle-is, decimal-form, crc-form, hex-form, little-form, decimal-below, decimal-without}
+use Rattle.fields.proofs.Lists.{le-or-lt, both}
+use Rattle.fields.proofs.Writing.{decimal-small, decimal-more, decimal-some, hex-length, little-length}
+use Rattle.fields.proofs.Reading.{below, below-none, decimal-is, decimal-byte, hex-is, hex-upper, hex-low, hex-past-nine, hex-past-upper, hex-past-lower, value-none, value-one, value-digit, value-grows, readDecimal-is, readCrc-is, readHex-is, readLittle-is, decimal-form, crc-form, hex-form, little-form, decimal-below, decimal-without}
 
 -- Written, and read back
 
@@ -103,11 +104,6 @@ read-crc n h = sym (readCrc-is (decimal n) n (read-decimal 4 n (omega arith) (om
 pub read-hex : (v : ℕ) → v < 16 ^ 8 → readHex (hex 8 v) ≡ Value v
 read-hex v h = sym (readHex-is (hex 8 v) (hex-length 8 v)) ∙ hex-value 8 v h
 
-pub little-length : (w v : ℕ) → length (little w v) ≡ w
-unfolding little
-little-length zero v = refl
-little-length (suc w) v = ap suc (little-length w (v / 256))
-
 pub little-value : (w v : ℕ) → v < 256 ^ w → littleValue (little w v) ≡ v
 unfolding little littleValue
 little-value zero v h = omega arith
@@ -117,10 +113,6 @@ little-value (suc w) v h =
 
 pub read-little : (w v : ℕ) → w ≤ 4 → v < 256 ^ w → readLittle (little w v) ≡ Value v
 read-little w v k h = sym (readLittle-is (little w v) (rw (little-length w v) k)) ∙ ap Value (little-value w v h)
-
--- no byte but digits is written
-pub decimal-clear : (x n : ℕ) → n < 10 ^ 20 → (x < 48) ⊎ (57 < x) → upTo x (decimal n) ≡ decimal n
-decimal-clear x n b h = decimal-without 20 x n (decimal n) h (read-decimal 19 n b b)
 
 -- Read, and written back
 
@@ -166,13 +158,8 @@ size-back v s e p = decimal-back 8 v s (omega arith) e p
 pub crc-back : (v : ℕ) (s : List ℕ) → readCrc s ≡ Value v → plain s ≡ true → decimal v ≡ s
 crc-back v s e p = decimal-back 5 v s (omega arith) (crc-form v s e .1) p
 
-both : (a b : Bool) → a && b ≡ true → (a ≡ true) × (b ≡ true)
-both true b e = (refl, e)
-both false b e = let z : _≡_ {A = ℕ} 0 1 = cc in absurd (omega arith)
-
--- a hex digit that is no small letter is the capital of its value
+-- a hex digit in capitals is the capital of its value
 capital-back : (c : ℕ) → hexDigit c < 16 → isCapital c ≡ true → capital (hexDigit c) ≡ c
-unfolding isCapital
 capital-back c h f = ⊎-elim
     (λ (p : c ≤ 57). ⊎-elim
     (λ (q : 48 ≤ c). rw (hex-is c q p) (capital-number (c - 48) (omega arith) ∙ omega arith))
@@ -183,7 +170,7 @@ capital-back c h f = ⊎-elim
     (λ (r : c < 65). absurd (omega (arith, hex-past-nine c p r))) (le-or-lt 65 c))
     (λ (q : 70 < c). ⊎-elim
     (λ (r : c ≤ 102). ⊎-elim
-    (λ (u : 97 ≤ c). let z : false ≡ true = simp (le-leb 97 c u, le-leb c 102 r) at f in let y : _≡_ {A = ℕ} 0 1 = cc in absurd (omega arith))
+    (λ (u : 97 ≤ c). let z : false ≡ true = simp (le-leb 48 c (omega arith), lt-leb c 57 p, le-leb 65 c (omega arith), lt-leb c 70 q) at f in let y : _≡_ {A = ℕ} 0 1 = cc in absurd (omega arith))
     (λ (u : c < 97). absurd (omega (arith, hex-past-upper c q u))) (le-or-lt 97 c))
     (λ (r : 102 < c). absurd (omega (arith, hex-past-lower c r))) (le-or-lt c 102)) (le-or-lt c 70))
     (le-or-lt c 57)
@@ -223,15 +210,18 @@ little-bytes-back (c ∷ s) f =
     let m : (littleValue s * 256 + c) % 256 ≡ c = omega arith in
     rw (q, m, little-bytes-back s (g .1))
 
+-- as many bytes bound the number
+pub little-below : (s : List ℕ) → all isByte s ≡ true → littleValue s < 256 ^ length s
+unfolding littleValue all isByte
+little-below [] f = below-none 256
+little-below (c ∷ s) f =
+    let g = both _ _ f in
+    rw add-one at (below 256 (length s) (littleValue s) c (little-below s (g .1)) (ltb-true c 256 (g .0)))
+
 pub little-back : (v : ℕ) (s : List ℕ) → readLittle s ≡ Value v → all isByte s ≡ true → little (length s) v ≡ s
 little-back v s e f = rw (little-form v s e .1) at (little-bytes-back s f)
 
--- What is written is in that form
-
-all-snoc : (f : ℕ → Bool) (s : List ℕ) (c : ℕ) → all f s ≡ true → f c ≡ true → all f (s ++ (c ∷ [])) ≡ true
-unfolding all
-all-snoc f [] c h g = rw g
-all-snoc f (x ∷ s) c h g = let b = both (f x) (all f s) h in rw (b .0, all-snoc f s c (b .1) g)
+-- ---- what is written is in that form
 
 -- the first digit of what is not 0
 decimal-first : (k n : ℕ) → n ≤ k → 0 < n → n < 10 ^ 20 → 48 < getD (decimal n) 0 0
@@ -252,18 +242,6 @@ decimal-plain n b = ⊎-elim
     or-true : (a : Bool) → a || true ≡ true
     or-true true = refl
     or-true false = refl
-
-capital-capital : (n : ℕ) → n < 16 → isCapital (capital n) ≡ true
-unfolding isCapital
-capital-capital n h = ⊎-elim
-    (λ (g : 10 ≤ n). rw (capital-letter n g, lt-leb 97 (55 + n) (omega arith)))
-    (λ (g : n < 10). rw (capital-number n g, lt-leb 97 (48 + n) (omega arith)))
-    (le-or-lt 10 n)
-
-pub hex-capitals : (w v : ℕ) → capitals (hex w v) ≡ true
-unfolding hex all
-hex-capitals zero v = refl
-hex-capitals (suc w) v = all-snoc isCapital (hex w (v / 16)) (capital (v % 16)) (hex-capitals w (v / 16)) (capital-capital (v % 16) (omega arith))
 
 pub little-bytes : (w v : ℕ) → all isByte (little w v) ≡ true
 unfolding little all isByte

@@ -15,6 +15,7 @@ use borrow.Rule.Slice.PartMut.{midOf, putMid}
 use Rattle.fields.proofs.Lists.{le-or-lt, all-append, all-upTo}
 use borrow.Author.Tests.{lt-ltb, le-ltb, le-leb, lt-leb}
 use Rattle.fields.specs.Lists.{all, upTo}
+use Rattle.fields.specs.Canonical.{isDigit, isCapital, capitals}
 use Rattle.fields.specs.Writing.{digits, decimal, capital, hex, little}
 
 -- the bound on the recursion does not matter where it is large enough
@@ -78,13 +79,7 @@ hex-more d p v x h e q =
     rw (drop-cons d (length d - 1) 0 (omega arith)) (set-at p (getD d (length d - 1) 0) (drop (suc (length d - 1)) d) x (length d - 1) m
     ∙ simp (g, q, e, l, hex-suc (length d) v h))
 
--- the bytes that digits are, and so any other byte is not among them
-abbrev pub isDigit : ℕ → Bool
-isDigit c = leb 48 c && leb c 57
-
-abbrev pub isCapital : ℕ → Bool
-isCapital c = isDigit c || (leb 65 c && leb c 70)
-
+-- only digits are written, and so any other byte is not among them
 digit-all : (n : ℕ) → all isDigit ((48 + n % 10) ∷ []) ≡ true
 unfolding all
 digit-all n = simp (le-leb 48 (48 + n % 10) (omega arith), le-leb (48 + n % 10) 57 (omega arith))
@@ -112,14 +107,14 @@ capital-is n h =
     (λ g. simp (lt-ltb n 10 g, le-leb 48 (48 + n) (omega arith), le-leb (48 + n) 57 (omega arith)))
     (le-or-lt 10 n)
 
-pub hex-all : (w v : ℕ) → all isCapital (hex w v) ≡ true
+pub hex-capitals : (w v : ℕ) → capitals (hex w v) ≡ true
 unfolding hex all
-hex-all zero v = refl
-hex-all (suc w) v =
-    all-append isCapital (hex w (v / 16)) (capital (v % 16) ∷ []) (hex-all w (v / 16)) (rw (capital-is (v % 16) (omega arith)))
+hex-capitals zero v = refl
+hex-capitals (suc w) v =
+    all-append isCapital (hex w (v / 16)) (capital (v % 16) ∷ []) (hex-capitals w (v / 16)) (rw (capital-is (v % 16) (omega arith)))
 
 pub hex-free : (x w v : ℕ) → isCapital x ≡ false → upTo x (hex w v) ≡ hex w v
-hex-free x w v h = all-upTo isCapital x (hex w v) h (hex-all w v)
+hex-free x w v h = all-upTo isCapital x (hex w v) h (hex-capitals w v)
 
 -- little-endian bytes
 pub little-length : (w v : ℕ) → length (little w v) ≡ w

@@ -10,9 +10,13 @@ use Rattle.fields.specs.Lists.{all}
 unfoldable pub plain : List ℕ → Bool
 plain s = leb (length s) 1 || not (eqb (getD s 0 0) 48)
 
--- no byte from a to f
-unfoldable pub isCapital : ℕ → Bool
-isCapital c = not (leb 97 c && leb c 102)
+-- 0 to 9
+abbrev pub isDigit : ℕ → Bool
+isDigit c = leb 48 c && leb c 57
+
+-- 0 to 9 and A to F
+abbrev pub isCapital : ℕ → Bool
+isCapital c = isDigit c || (leb 65 c && leb c 70)
 
 -- hex digits in capitals
 abbrev pub capitals : List ℕ → Bool

@@ -5,7 +5,7 @@ use native.Mathlib.Omega.{arith}
 use lib.ListN.{length, drop}
 use denote.Ref.{now}
 use Rattle.fields.specs.Reading.{littleValue}
-use Rattle.fields.proofs.Reading.{below-none, little-on, little-below, little-fits, little-end}
+use Rattle.fields.proofs.Reading.{below-none, little-on, little-turn, little-fits, little-end}
 use borrow.Author.Needs.{needs}
 use Rattle.fields.proofs.little_of.Statement.{statement}
 use Rattle.fields.proofs.little_of.Tie as tie
@@ -53,7 +53,7 @@ loop-again c =
     let l = c .before .before .before .loop in
     let h = c .before .before .loop-test .taken in (
       omega arith,
-      little-below s (l .i) (l .acc) (c .wide .result) h (l .inv .0) (byte c) (l .inv .1),
+      little-turn s (l .i) (l .acc) (c .wide .result) h (l .inv .0) (byte c) (l .inv .1),
       little-on s (l .i) (l .acc) (c .wide .result) h (l .inv .0) (l .inv .2) (c .wide .ensures),
     )
 
