@@ -1,0 +1,5 @@
+pub mod Span
+pub mod Packet
+pub mod Content
+pub mod Kind
+pub mod Canonical

@@ -1,0 +1,138 @@
+// Reads YAPP packets that come in chunks of any size.
+use packets::Packet;
+use packets::Span;
+ghost use mathlib.Core.Path.{_≡_};
+ghost use lib.ListN.{length};
+ghost use Prim.Native.Nat.{_<_};
+ghost use Rattle.reader.specs.Reader.{Fed, slot as slotOf, feed, fresh, checking, receive as receiveOf};
+
+pub struct Reader {
+    // The bytes of an unfinished packet (document 01's waiting room), and after a packet its bytes.
+    pending: [u8; 259],
+    // How many bytes wait.
+    filled: usize,
+    // Whether every DT has a checksum (YappC).
+    checked: bool,
+}
+
+// What a chunk came to.
+pub struct Received {
+    pub reader: Reader,
+    // How many bytes of the chunk were taken: at most to the end of one packet.
+    pub taken: usize,
+    pub found: Span,
+    // The packet; its places are in the reader's pending bytes.
+    pub packet: Packet,
+}
+
+struct Filled {
+    filled: usize,
+    taken: usize,
+    found: Span,
+}
+
+// Where the next byte goes.
+fn slot(filled: usize) -> usize
+    ensures { λ r. ⌜ (r ≡ slotOf filled) × (r < 259) ⌝ }
+{
+    if filled < 259 { filled } else { 0 }
+}
+
+// Fills the pending bytes from the chunk until they are a packet, or a drop.
+fn fill(pending: &mut [u8], filled: usize, checked: bool, chunk: &[u8]) -> Filled
+    requires { ⌜ length (now pending) ≡ 259 ⌝ }
+    ensures { λ r. ⌜ feed checked (now (pending .entry)) filled 0 (now (chunk .entry)) ≡ record { pending = now (pending .exit); filled = r .filled; taken = r .taken; found = r .found } ⌝ }
+{
+    let mut n = filled;
+    let mut i = 0;
+    while i < chunk.len() {
+        let at = slot(n);
+        pending[at] = chunk[i];
+        n = at + 1;
+        i += 1;
+        let found = packets::span_of(&pending[..n], checked);
+        match found {
+            Span::Open => {}
+            Span::Whole(w) => {
+                return Filled {
+                    filled: 0,
+                    taken: i,
+                    found: Span::Whole(w),
+                };
+            }
+            Span::Drop(w) => {
+                return Filled {
+                    filled: 0,
+                    taken: i,
+                    found: Span::Drop(w),
+                };
+            }
+        }
+    }
+    Filled {
+        filled: n,
+        taken: i,
+        found: Span::Open,
+    }
+}
+
+impl Reader {
+    // A reader that has seen nothing.
+    pub fn new(checked: bool) -> Self
+        ensures { λ r. ⌜ r ≡ fresh checked ⌝ }
+    {
+        Reader {
+            pending: [0; 259],
+            filled: 0,
+            checked,
+        }
+    }
+
+    // The same reader, from now on with or without checksums.
+    pub fn checking(self, checked: bool) -> Self
+        ensures { λ r. ⌜ r ≡ checking checked self ⌝ }
+    {
+        let pending = self.pending;
+        Reader {
+            pending,
+            filled: self.filled,
+            checked,
+        }
+    }
+
+    // The pending bytes. After a packet they begin with it.
+    pub fn pending(self) -> [u8; 259]
+        ensures { λ r. ⌜ r ≡ self .pending ⌝ }
+    {
+        self.pending
+    }
+
+    // How many bytes of an unfinished packet wait.
+    pub fn filled(self) -> usize
+        ensures { λ r. ⌜ r ≡ self .filled ⌝ }
+    {
+        self.filled
+    }
+
+    // Takes bytes of the chunk, at most to the end of one packet. An empty chunk changes nothing.
+    pub fn receive(self, chunk: &[u8]) -> Received
+        ensures { λ r. ⌜ r ≡ receiveOf self (now (chunk .entry)) ⌝ }
+    {
+        let mut pending = self.pending;
+        let checked = self.checked;
+        let filled = self.filled;
+        let f = fill(&mut pending, filled, checked, chunk);
+        let found = f.found;
+        let packet = packets::packet_in(found, &pending, checked);
+        Received {
+            reader: Reader {
+                pending,
+                filled: f.filled,
+                checked,
+            },
+            taken: f.taken,
+            found,
+            packet,
+        }
+    }
+}
