@@ -1,6 +1,3 @@
 -- Laws of the definitions of specs/, which this crate's proofs and its callers' cite.
 pub mod Lists
 pub mod Buffer
-pub mod Reading
-pub mod Writing
-pub mod RoundTrip

@@ -8,14 +8,14 @@ use native.Mathlib.Omega.{arith}
 use lib.Dec.{eqb}
 use lib.ListN.{length, take, drop, getD, List·getD-eq-default}
 use borrow.Author.Tests.{lt-ltb, le-ltb, eq-eqb, ne-eqb}
-use Rattle.fields.specs.declared.Number.{Number}
-use Rattle.fields.specs.declared.Number.the-variants.{Value, Malformed as NoNumber}
+use Rattle.numbers.specs.declared.Number.{Number}
+use Rattle.numbers.specs.declared.Number.the-variants.{Value, Malformed as NoNumber}
 use Rattle.fields.specs.declared.Stamp.{Stamp}
 use Rattle.fields.specs.declared.Stamp.the-variants.{Absent}
 use Rattle.fields.specs.Pick.{pick}
 use Rattle.fields.specs.Lists.{upTo, bytesAt}
 use Rattle.fields.specs.Name.{isName}
-use Rattle.fields.specs.Reading.{readSize, readHex}
+use Rattle.numbers.specs.Reading.{readSize, readHex}
 use Rattle.fields.proofs.Lists.{tail-is, take-upTo}
 use Rattle.packets.specs.declared.HeaderRead.{HeaderRead}
 use Rattle.packets.specs.declared.HeaderRead.the-variants.{Good, Bad}

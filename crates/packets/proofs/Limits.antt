@@ -10,11 +10,11 @@ use lib.ListN.{length, take, drop, getD, length-append, take-append-drop}
 use lib.Seq.{length-take-le, take-append-le}
 use borrow.Author.Tests.{eqb-false}
 use Rattle.fields.specs.Pick.{pick}
-use Rattle.fields.specs.Canonical.{isByte}
+use Rattle.numbers.specs.Canonical.{isByte}
 use Rattle.fields.specs.Lists.{all, bytesAt, upTo}
 use Rattle.fields.specs.Name.{isName}
 use Rattle.fields.proofs.Lists.{take-upTo, upTo-le}
-use Rattle.fields.proofs.Reading.{size-below}
+use Rattle.numbers.proofs.Reading.{size-below}
 use Rattle.packets.specs.declared.Span.the-variants.{Open as Unfinished, Whole, Drop}
 use Rattle.packets.specs.declared.HeaderRead.the-variants.{Good, Bad}
 use Rattle.packets.specs.declared.ResumeRead.{ResumeRead}

@@ -8,15 +8,15 @@ use native.Mathlib.Omega.{arith}
 use lib.Dec.{ltb, eqb}
 use lib.ListN.{length, take, drop, getD}
 use borrow.Author.Tests.{le-ltb, le-leb, ne-eqb, eqb-true, ltb-true}
-use Rattle.fields.specs.declared.Number.the-variants.{Value, Malformed as NoNumber}
+use Rattle.numbers.specs.declared.Number.the-variants.{Value, Malformed as NoNumber}
 use Rattle.fields.specs.declared.Stamp.{Stamp}
 use Rattle.fields.specs.declared.Stamp.the-variants.{Present, Absent}
-use Rattle.fields.specs.declared.Number.{Number}
+use Rattle.numbers.specs.declared.Number.{Number}
 use Rattle.fields.specs.Pick.{pick}
 use Rattle.fields.specs.Lists.{upTo}
 use Rattle.fields.specs.Name.{isName}
-use Rattle.fields.specs.Reading.{readSize, readHex}
-use Rattle.fields.proofs.Reading.{hex-below}
+use Rattle.numbers.specs.Reading.{readSize, readHex}
+use Rattle.numbers.proofs.Reading.{hex-below}
 use Rattle.packets.specs.declared.HeaderRead.the-variants.{Good, Bad}
 use Rattle.packets.specs.declared.ResumeRead.the-variants.{Asked, Nothing}
 use Rattle.packets.specs.declared.Header.{Header}

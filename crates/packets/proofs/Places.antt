@@ -8,12 +8,12 @@ use native.Mathlib.Omega.{arith}
 use lib.ListN.{length, getD, take, drop, length-take}
 use lib.Seq.{length-take-le, take-append-le}
 use lib.Dec.{ltb, eqb}
-use Rattle.fields.specs.declared.Number.{Number}
-use Rattle.fields.specs.declared.Number.the-variants.{Value, Malformed as NoNumber}
+use Rattle.numbers.specs.declared.Number.{Number}
+use Rattle.numbers.specs.declared.Number.the-variants.{Value, Malformed as NoNumber}
 use Rattle.fields.specs.Pick.{pick}
 use Rattle.fields.specs.Lists.{upTo}
 use Rattle.fields.specs.Name.{isName}
-use Rattle.fields.specs.Reading.{readSize}
+use Rattle.numbers.specs.Reading.{readSize}
 use Rattle.fields.specs.declared.Place.{Place}
 use Rattle.packets.specs.declared.Span.{Span}
 use Rattle.packets.specs.declared.Span.the-variants.{Open, Whole, Drop}

@@ -6,9 +6,9 @@ use native.Mathlib.Nat.{mod-add-mod, mod-eq-of-lt, zero-add, add-zero, add-assoc
 use native.Mathlib.Omega.{arith}
 use lib.ListN.{length, take, drop, getD, drop-of-length-le}
 use borrow.Author.Tests.{lt-ltb, le-ltb}
-use Rattle.fields.specs.declared.Number.the-variants.{Value, Malformed as NoNumber}
+use Rattle.numbers.specs.declared.Number.the-variants.{Value, Malformed as NoNumber}
 use Rattle.fields.specs.Lists.{upTo}
-use Rattle.fields.specs.Reading.{readSize}
+use Rattle.numbers.specs.Reading.{readSize}
 use Rattle.fields.proofs.Lists.{tail-is, drop-one, take-upTo}
 use Rattle.packets.specs.declared.ResumeRead.the-variants.{Nothing}
 use Rattle.packets.specs.Packet.{resumeMode, resumeDigits, sum, checksum}

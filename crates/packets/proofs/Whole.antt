@@ -10,7 +10,7 @@ use lib.Dec.{leb, eqb}
 use lib.ListN.{length, take, drop, getD, take-append-drop}
 use lib.Seq.{take-all, take-length, length-take-le}
 use borrow.Author.Tests.{leb-true, eqb-true, ltb-true}
-use Rattle.fields.specs.Canonical.{isByte}
+use Rattle.numbers.specs.Canonical.{isByte}
 use Rattle.fields.specs.Lists.{all}
 use Rattle.fields.proofs.Lists.{both}
 use Rattle.packets.specs.declared.Span.{Span}

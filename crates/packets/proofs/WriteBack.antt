@@ -12,13 +12,13 @@ use borrow.Author.Tests.{le-leb, ne-eqb, leb-true, eqb-true, eqb-false}
 use Rattle.fields.specs.declared.Stamp.{Stamp}
 use Rattle.fields.specs.declared.Stamp.the-variants.{Present, Absent}
 use Rattle.fields.specs.Pick.{pick}
-use Rattle.fields.specs.Canonical.{plain, capitals, isByte}
+use Rattle.numbers.specs.Canonical.{plain, capitals, isByte}
 use Rattle.fields.specs.Lists.{all, upTo}
-use Rattle.fields.specs.Writing.{hex}
+use Rattle.numbers.specs.Writing.{hex}
 use Rattle.fields.specs.Buffer.{bytes}
 use Rattle.fields.proofs.Lists.{both, upTo-cut}
-use Rattle.fields.proofs.RoundTrip.{size-back, hex-back}
-use Rattle.fields.proofs.Reading.{size-below}
+use Rattle.numbers.proofs.RoundTrip.{size-back, hex-back}
+use Rattle.numbers.proofs.Reading.{size-below}
 use Rattle.packets.specs.declared.Span.the-variants.{Whole}
 use Rattle.packets.specs.declared.HeaderRead.the-variants.{Good, Bad}
 use Rattle.packets.specs.declared.ResumeRead.{ResumeRead}

@@ -7,7 +7,7 @@ use lib.ListN.{length, getD, take, drop}
 use lib.Dec.{eqb}
 use Rattle.fields.specs.Pick.{pick}
 use Rattle.fields.specs.Lists.{upTo}
-use Rattle.fields.specs.Canonical.{plain, capitals}
+use Rattle.numbers.specs.Canonical.{plain, capitals}
 use Rattle.fields.specs.declared.Stamp.{Stamp}
 use Rattle.fields.specs.declared.Stamp.the-variants.{Present, Absent}
 use Rattle.packets.specs.declared.HeaderRead.{HeaderRead}

@@ -4,12 +4,12 @@ use mathlib.Core.List.{List, [], _∷_}
 use mathlib.Core.Bool.{Bool, true, false}
 use lib.ListN.{length, getD, take, drop}
 use lib.Dec.{leb, ltb, eqb}
-use Rattle.fields.specs.declared.Number.{Number}
-use Rattle.fields.specs.declared.Number.the-variants.{Value, Malformed as NoNumber}
+use Rattle.numbers.specs.declared.Number.{Number}
+use Rattle.numbers.specs.declared.Number.the-variants.{Value, Malformed as NoNumber}
 use Rattle.fields.specs.Pick.{pick}
 use Rattle.fields.specs.Lists.{bytesAt, upTo}
 use Rattle.fields.specs.Name.{isName}
-use Rattle.fields.specs.Reading.{readSize, readHex}
+use Rattle.numbers.specs.Reading.{readSize, readHex}
 use Rattle.packets.specs.Span.{span, placeAt}
 use Rattle.fields.specs.declared.Place.{Place}
 use Rattle.packets.specs.declared.Span.{Span}

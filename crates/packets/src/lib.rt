@@ -1,7 +1,7 @@
 // YAPP packets: how far a packet reaches, and what its bytes say.
-use fields::Number;
 use fields::Place;
 use fields::Stamp;
+use numbers::Number;
 ghost use mathlib.Core.Path.{_≡_};
 ghost use lib.ListN.{length, getD, take};
 ghost use Prim.Native.Nat.{_<_};
@@ -215,7 +215,7 @@ fn stamp_of(option: &[u8]) -> Stamp
     if option[8] != 0 {
         return Stamp::Absent;
     }
-    let Number::Value(v) = fields::read_hex(&option[..8]) else {
+    let Number::Value(v) = numbers::read_hex(&option[..8]) else {
         return Stamp::Absent;
     };
     Stamp::Present(v)
@@ -227,7 +227,7 @@ fn header_size(n: usize, t: &[u8]) -> HeaderRead
 {
     let k = fields::find(t, 0);
     if k < t.len() {
-        let Number::Value(size) = fields::read_size(&t[..k]) else {
+        let Number::Value(size) = numbers::read_size(&t[..k]) else {
             return HeaderRead::Bad;
         };
         let at = k + 1;
@@ -292,7 +292,7 @@ fn resume_digits(t: &[u8]) -> ResumeRead
 {
     let k = fields::find(t, 0);
     if k < t.len() {
-        let Number::Value(v) = fields::read_size(&t[..k]) else {
+        let Number::Value(v) = numbers::read_size(&t[..k]) else {
             return ResumeRead::Nothing;
         };
         let at = k + 1;

@@ -8,18 +8,18 @@ use native.Mathlib.Omega.{arith}
 use native.Mathlib.Nat.{add-zero}
 use lib.ListN.{length, length-append, length-take, take-append-drop}
 use borrow.Author.Tests.{le-leb, lt-leb, eq-eqb, ne-eqb}
-use Rattle.fields.specs.declared.Number.the-variants.{Value, Malformed}
+use Rattle.numbers.specs.declared.Number.the-variants.{Value, Malformed}
 use Rattle.fields.specs.declared.Stamp.{Stamp}
 use Rattle.fields.specs.declared.Stamp.the-variants.{Present, Absent}
 use Rattle.fields.specs.Lists.{part}
 use Rattle.fields.specs.Name.{isName}
-use Rattle.fields.specs.Reading.{readLittle}
-use Rattle.fields.specs.Writing.{little}
+use Rattle.numbers.specs.Reading.{readLittle}
+use Rattle.numbers.specs.Writing.{little}
 use Rattle.fields.specs.Buffer.{over, appended, appendedEnd, formless, bytes}
 use Rattle.fields.proofs.Lists.{le-or-lt}
 use Rattle.fields.proofs.Buffer.{append-fits, append-short, Grown, grown-none, grown, grown-is}
-use Rattle.fields.proofs.Reading.{readLittle-is, little-form}
-use Rattle.fields.proofs.Writing.{little-length}
+use Rattle.numbers.proofs.Reading.{readLittle-is, little-form}
+use Rattle.numbers.proofs.Writing.{little-length}
 use Rattle.records.specs.declared.RecordRead.the-variants.{Good, Unreadable}
 use Rattle.records.specs.Record.{numberAt, namedAt, kindRead, recordOf}
 use Rattle.records.specs.Saved.{Saved, saved, kindOf, stampBytes, recordData, recordBytes, stampFits, isSaved, recordForm}

@@ -7,7 +7,7 @@ use lib.Dec.{leb, eqb}
 use Rattle.fields.specs.Pick.{pick}
 use Rattle.fields.specs.Lists.{part}
 use Rattle.fields.specs.Name.{isName}
-use Rattle.fields.specs.Reading.{littleValue}
+use Rattle.numbers.specs.Reading.{littleValue}
 use Rattle.fields.specs.declared.Stamp.{Stamp}
 use Rattle.fields.specs.declared.Stamp.the-variants.{Present, Absent}
 use Rattle.records.specs.declared.RecordRead.{RecordRead}

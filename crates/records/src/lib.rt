@@ -1,8 +1,8 @@
 // The saved record of a broken transfer, read and written.
-use fields::Number;
 use fields::Place;
 use fields::Stamp;
 use fields::Written;
+use numbers::Number;
 ghost use mathlib.Core.Path.{_≡_};
 ghost use mathlib.Core.Bool.{true};
 ghost use Prim.Native.Nat.{_+_, _≤_};
@@ -30,7 +30,7 @@ fn number_at(b: &[u8], from: usize, width: usize) -> u32
     requires { ⌜ width ≤ 4 ⌝ }
     ensures { λ r. ⌜ r ≡ numberAt from width (now (b .entry)) ⌝ }
 {
-    let Number::Value(v) = fields::read_little(fields::part(b, from, width)) else {
+    let Number::Value(v) = numbers::read_little(fields::part(b, from, width)) else {
         return 0;
     };
     v
@@ -108,7 +108,7 @@ fn append_stamp(buf: &mut [u8], at: usize, stamp: Stamp) -> usize
     ensures { λ r. ⌜ (r ≡ appendedEnd at (stampBytes stamp) (now (buf .entry))) × (now (buf .exit) ≡ appended at (stampBytes stamp) (now (buf .entry))) × (stampFits stamp ≡ true) ⌝ }
 {
     match stamp {
-        Stamp::Present(v) => fields::append_little(buf, at, 4, v),
+        Stamp::Present(v) => numbers::append_little(buf, at, 4, v),
         Stamp::Absent => at,
     }
 }
@@ -119,12 +119,12 @@ fn put_record(buf: &mut [u8], name: &[u8], size: u32, kept: u32, stamp: Stamp) -
     ensures { λ r. ⌜ (r ≡ length (recordBytes (saved (now (name .entry)) size kept stamp))) × (now (buf .exit) ≡ over 0 (recordBytes (saved (now (name .entry)) size kept stamp)) (now (buf .entry))) × (stampFits stamp ≡ true) ⌝ }
 {
     let count = count_of(name.len(), stamp);
-    let counted = fields::append_little(buf, 0, 2, count as u32);
-    let sorted = fields::append_little(buf, counted, 2, kind_of(stamp));
-    let sized = fields::append_little(buf, sorted, 4, size);
-    let held = fields::append_little(buf, sized, 4, kept);
+    let counted = numbers::append_little(buf, 0, 2, count as u32);
+    let sorted = numbers::append_little(buf, counted, 2, kind_of(stamp));
+    let sized = numbers::append_little(buf, sorted, 4, size);
+    let held = numbers::append_little(buf, sized, 4, kept);
     let stamped = append_stamp(buf, held, stamp);
-    let named = fields::append_little(buf, stamped, 1, name.len() as u32);
+    let named = numbers::append_little(buf, stamped, 1, name.len() as u32);
     fields::append_bytes(buf, named, name)
 }
 

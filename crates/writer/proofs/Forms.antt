@@ -15,10 +15,10 @@ use borrow.Author.Tests.{le-leb, lt-leb}
 use Rattle.fields.specs.declared.Stamp.{Stamp}
 use Rattle.fields.specs.declared.Stamp.the-variants.{Present, Absent}
 use Rattle.fields.specs.Name.{isName}
-use Rattle.fields.specs.Writing.{decimal, hex}
+use Rattle.numbers.specs.Writing.{decimal, hex}
 use Rattle.fields.specs.Buffer.{over, placed, placedCount, appended, appendedEnd, formless, bytes, formIf}
-use Rattle.fields.proofs.Writing.{hex-length}
-use Rattle.fields.proofs.RoundTrip.{decimal-length}
+use Rattle.numbers.proofs.Writing.{hex-length}
+use Rattle.numbers.proofs.RoundTrip.{decimal-length}
 use Rattle.fields.proofs.Buffer.{set-over, append-fits, append-part, length-over, Grown, grown-none, grown}
 use Rattle.packets.specs.Packet.{resumeRead, checksum}
 use Rattle.packets.specs.Content.{countedForm, stampData, stampFits, headerData, headerForm, blockForm, isAsked, refusalForm, resumeData, resumeForm, requestForm}

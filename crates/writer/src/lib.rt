@@ -105,11 +105,11 @@ fn put_header(room: &mut [u8], name: &[u8], size: u32, stamp: Stamp) -> usize
 {
     let named = fields::append_bytes(room, 0, name);
     let at = fields::append_byte(room, named, 0);
-    let sized = fields::append_decimal(room, at, size as u64);
+    let sized = numbers::append_decimal(room, at, size as u64);
     let next = fields::append_byte(room, sized, 0);
     match stamp {
         Stamp::Present(v) => {
-            let stamped = fields::append_hex(room, next, v);
+            let stamped = numbers::append_hex(room, next, v);
             fields::append_byte(room, stamped, 0)
         }
         Stamp::Absent => next,
@@ -167,7 +167,7 @@ fn put_resume(room: &mut [u8], position: u32, checked: bool) -> usize
 {
     let at = fields::append_byte(room, 0, b'R');
     let from = fields::append_byte(room, at, 0);
-    let sized = fields::append_decimal(room, from, position as u64);
+    let sized = numbers::append_decimal(room, from, position as u64);
     let next = fields::append_byte(room, sized, 0);
     if checked {
         let mode = fields::append_byte(room, next, b'C');

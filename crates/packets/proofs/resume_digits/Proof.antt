@@ -4,8 +4,8 @@ use native.Mathlib.Omega.{arith}
 use borrow.Author.Needs.{needs}
 use denote.Ref.{now}
 use lib.ListN.{length, take, length-take}
-use Rattle.fields.specs.declared.Number.the-variants.{Value, Malformed as NoNumber}
-use Rattle.fields.specs.Reading.{readSize}
+use Rattle.numbers.specs.declared.Number.the-variants.{Value, Malformed as NoNumber}
+use Rattle.numbers.specs.Reading.{readSize}
 use Rattle.packets.proofs.ResumeLaws.{digits-open, digits-none, digits-mode}
 use Rattle.packets.proofs.resume_digits.Statement.{statement}
 use Rattle.packets.proofs.resume_digits.Tie as tie
