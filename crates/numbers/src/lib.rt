@@ -183,7 +183,7 @@ fn capital(n: u32) -> u8
 }
 
 // Fills buf with the last hex digits of v, in capitals.
-fn fill_hex(buf: &mut [u8], v: u32)
+pub fn fill_hex(buf: &mut [u8], v: u32)
     ensures { λ _. ⌜ now (buf .exit) ≡ hex (length (now (buf .entry))) v ⌝ }
 {
     if 0 < buf.len() {

@@ -15,7 +15,7 @@ use Rattle.fields.specs.Lists.{all, bytesAt, upTo}
 use Rattle.fields.specs.Name.{isName}
 use Rattle.fields.proofs.Lists.{take-upTo, upTo-le}
 use Rattle.numbers.proofs.Reading.{size-below}
-use Rattle.packets.specs.declared.Span.the-variants.{Open as Unfinished, Whole, Drop}
+use Rattle.spans.specs.declared.Span.the-variants.{Open as Unfinished, Whole, Drop}
 use Rattle.packets.specs.declared.HeaderRead.the-variants.{Good, Bad}
 use Rattle.packets.specs.declared.ResumeRead.{ResumeRead}
 use Rattle.packets.specs.declared.ResumeRead.the-variants.{Asked, Nothing}
@@ -23,10 +23,10 @@ use Rattle.packets.specs.declared.Packet.{Packet}
 use Rattle.packets.specs.declared.Header.{Header}
 use Rattle.packets.specs.declared.HeaderRead.{HeaderRead}
 use Rattle.packets.specs.declared.Resume.{Resume}
-use Rattle.packets.specs.declared.Span.{Span}
+use Rattle.spans.specs.declared.Span.{Span}
 use Rattle.packets.specs.declared.Block.{Block}
 use Rattle.packets.specs.declared.Packet.the-variants.{RR, RF, AF, AT, CA, RT, SI, RI, HD, Malformed, DT, EF, ET, NR, RE, CN, TX, Dropped, Open}
-use Rattle.packets.specs.Span.{dataLength, counted, total, span, lead, trail, placeAt}
+use Rattle.spans.specs.Span.{dataLength, counted, total, span, lead, trail, placeAt}
 use Rattle.packets.specs.Packet.{headerRead, headerBy, resumeRead, nakBy, acknowledgeOf, placeOf, dataOf, wholeOf, packetOf, packetIn}
 use Rattle.packets.specs.Content.{stampFits}
 use Rattle.packets.specs.Canonical.{behind}

@@ -15,14 +15,14 @@ use Rattle.fields.specs.Lists.{upTo}
 use Rattle.fields.specs.Name.{isName}
 use Rattle.numbers.specs.Reading.{readSize}
 use Rattle.fields.specs.declared.Place.{Place}
-use Rattle.packets.specs.declared.Span.{Span}
-use Rattle.packets.specs.declared.Span.the-variants.{Open, Whole, Drop}
+use Rattle.spans.specs.declared.Span.{Span}
+use Rattle.spans.specs.declared.Span.the-variants.{Open, Whole, Drop}
 use Rattle.packets.specs.declared.HeaderRead.the-variants.{Bad}
 use Rattle.packets.specs.declared.ResumeRead.{ResumeRead}
 use Rattle.packets.specs.declared.ResumeRead.the-variants.{Asked, Nothing}
 use Rattle.packets.specs.declared.Packet.{Packet}
 use Rattle.packets.specs.declared.Packet.the-variants.{RR, RF, AF, AT, CA, RT, SI, RI}
-use Rattle.packets.specs.Span.{lead, placeAt, sizeOf}
+use Rattle.spans.specs.Span.{lead, placeAt, sizeOf}
 use Rattle.packets.specs.Packet.{sizedBy, headerSize, headerRead, headerBy, resumeRead, nakBy, acknowledgeOf, placeOf, dataOf, wholeOf, packetIn}
 use Rattle.fields.specs.Lists.{bytesAt}
 use Rattle.packets.specs.Content.{contentOf}

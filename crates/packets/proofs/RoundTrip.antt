@@ -20,11 +20,11 @@ use Rattle.fields.proofs.Lists.{le-or-lt, both, all-append, name-length, name-f
 use Rattle.numbers.proofs.Writing.{hex-length}
 use Rattle.numbers.proofs.RoundTrip.{decimal-plain, read-size, read-hex, decimal-length}
 use Rattle.numbers.proofs.Writing.{decimal-free, hex-capitals}
-use Rattle.packets.specs.declared.Span.the-variants.{Whole}
+use Rattle.spans.specs.declared.Span.the-variants.{Whole}
 use Rattle.packets.specs.declared.HeaderRead.the-variants.{Good}
 use Rattle.packets.specs.declared.ResumeRead.{ResumeRead}
 use Rattle.packets.specs.declared.ResumeRead.the-variants.{Asked, Nothing}
-use Rattle.packets.specs.Span.{known, paired, dataLength, counted, total, span, lead, trail, placeAt}
+use Rattle.spans.specs.Span.{known, paired, dataLength, counted, total, span, lead, trail, placeAt}
 use Rattle.packets.specs.Packet.{stampOf, headerSize, headerRead, resumeMode, resumeDigits, resumeRead, checksum, isSound, acknowledgeOf, wholeOf, packetOf}
 use Rattle.packets.specs.Content.{Content, rr, rf, af, at, ca, rt, si, ef, et, ri, nr, cn, tx, hd, malformed, dt, re, dropped, unfinished, contentOf, stampData, stampFits, headerData, headerForm, blockForm, isAsked, refusalForm, resumeData, resumeForm, requestForm, formOf}
 use Rattle.packets.specs.Canonical.{optionInForm, headerInForm, nakInForm, inForm, isBlock}

@@ -13,11 +13,11 @@ use borrow.Author.Tests.{leb-true, eqb-true, ltb-true}
 use Rattle.numbers.specs.Canonical.{isByte}
 use Rattle.fields.specs.Lists.{all}
 use Rattle.fields.proofs.Lists.{both}
-use Rattle.packets.specs.declared.Span.{Span}
-use Rattle.packets.specs.declared.Span.the-variants.{Open, Whole, Drop}
-use Rattle.packets.specs.Span.{known, paired, counted, total, span, lead, trail, placeAt, sizeOf}
+use Rattle.spans.specs.declared.Span.{Span}
+use Rattle.spans.specs.declared.Span.the-variants.{Open, Whole, Drop}
+use Rattle.spans.specs.Span.{known, paired, counted, total, span, lead, trail, placeAt, sizeOf}
 use Rattle.packets.specs.Packet.{dataOf, wholeOf, packetOf}
-use Rattle.packets.proofs.Laws.{at-whole, Case, none, unknown, one, wrong, whole, short, case, at-none, at-unknown, at-one, at-wrong, at-short, grown, size-within}
+use Rattle.spans.proofs.Laws.{at-whole, Case, none, unknown, one, wrong, whole, short, case, at-none, at-unknown, at-one, at-wrong, at-short, grown, size-within}
 
 -- ---- One whole packet
 

@@ -19,14 +19,14 @@ use Rattle.fields.specs.Buffer.{bytes}
 use Rattle.fields.proofs.Lists.{both, upTo-cut}
 use Rattle.numbers.proofs.RoundTrip.{size-back, hex-back}
 use Rattle.numbers.proofs.Reading.{size-below}
-use Rattle.packets.specs.declared.Span.the-variants.{Whole}
+use Rattle.spans.specs.declared.Span.the-variants.{Whole}
 use Rattle.packets.specs.declared.HeaderRead.the-variants.{Good, Bad}
 use Rattle.packets.specs.declared.ResumeRead.{ResumeRead}
 use Rattle.packets.specs.declared.ResumeRead.the-variants.{Asked, Nothing}
 use Rattle.packets.specs.declared.Header.{Header}
 use Rattle.packets.specs.declared.HeaderRead.{HeaderRead}
 use Rattle.packets.specs.declared.Resume.{Resume}
-use Rattle.packets.specs.Span.{paired, dataLength, counted, total, span, lead, trail, placeAt}
+use Rattle.spans.specs.Span.{paired, dataLength, counted, total, span, lead, trail, placeAt}
 use Rattle.packets.specs.Packet.{stampOf, headerRead, resumeRead, checksum, isSound, dataOf, packetOf}
 use Rattle.packets.specs.Content.{Content, rr, rf, af, at, ca, rt, si, ef, et, ri, nr, cn, tx, hd, dt, re, contentOf, stampData, headerData, headerForm, blockForm, refusalForm, resumeData, resumeForm, requestForm, formOf}
 use Rattle.packets.specs.Canonical.{behind, isGood, isPresent, optionInForm, headerInForm, nakInForm, inForm}

@@ -1,4 +1,3 @@
-pub mod Span
 pub mod Packet
 pub mod Content
 pub mod Kind

@@ -10,10 +10,10 @@ use Rattle.fields.specs.Pick.{pick}
 use Rattle.fields.specs.Lists.{bytesAt, upTo}
 use Rattle.fields.specs.Name.{isName}
 use Rattle.numbers.specs.Reading.{readSize, readHex}
-use Rattle.packets.specs.Span.{span, placeAt}
+use Rattle.spans.specs.Span.{span, placeAt}
 use Rattle.fields.specs.declared.Place.{Place}
-use Rattle.packets.specs.declared.Span.{Span}
-use Rattle.packets.specs.declared.Span.the-variants.{Open as Unfinished, Whole, Drop}
+use Rattle.spans.specs.declared.Span.{Span}
+use Rattle.spans.specs.declared.Span.the-variants.{Open as Unfinished, Whole, Drop}
 use Rattle.fields.specs.declared.Stamp.{Stamp}
 use Rattle.fields.specs.declared.Stamp.the-variants.{Present, Absent}
 use Rattle.packets.specs.declared.Header.{Header}

@@ -1,22 +1,12 @@
-// YAPP packets: how far a packet reaches, and what its bytes say.
+// YAPP packets: what their bytes say.
 use fields::Place;
 use fields::Stamp;
 use numbers::Number;
+use spans::Span;
 ghost use mathlib.Core.Path.{_≡_};
 ghost use lib.ListN.{length, getD, take};
 ghost use Prim.Native.Nat.{_<_};
-ghost use Rattle.packets.specs.Span.{known, paired, dataLength, total, span as spanOf, lead as leadOf, trail as trailOf, placeAt};
 ghost use Rattle.packets.specs.Packet.{stampOf, headerSize, headerRead, headerBy, resumeMode, resumeDigits, resumeRead, nakBy, checksum as checksumOf, isSound, acknowledgeOf, enquiryBy, placeOf, dataOf, wholeOf, packetIn, packetOf, frontData};
-
-// What stands at the front of the bytes at hand.
-pub enum Span {
-    // A packet that is not finished yet, or nothing.
-    Open,
-    // A packet of this many bytes.
-    Whole(usize),
-    // This many bytes that start no packet: 1 or 2.
-    Drop(usize),
-}
 
 // A header: where the name stands in the packet, the size of the file, the stamp.
 pub struct Header {
@@ -75,127 +65,16 @@ pub enum ResumeRead {
     Nothing,
 }
 
-// Whether a packet can start with this byte.
-fn is_known(first: u8) -> bool
-    ensures { λ r. ⌜ r ≡ known first ⌝ }
-{
-    match first {
-        1 | 2 | 3 | 4 | 5 | 6 | 0x10 | 0x15 | 0x18 => true,
-        _ => false,
-    }
-}
-
-// Whether a known first byte may have this second byte.
-fn is_paired(first: u8, second: u8) -> bool
-    ensures { λ r. ⌜ r ≡ paired first second ⌝ }
-{
-    match first {
-        3 => second == 1,
-        4 => second == 1,
-        5 => second == 1 || second == 2,
-        6 => 1 <= second && second <= 6,
-        _ => true,
-    }
-}
-
-// How many bytes of data a DT has by its length byte: 00 means 256.
-fn data_length(second: u8) -> usize
-    ensures { λ r. ⌜ r ≡ dataLength second ⌝ }
-{
-    if second == 0 { 256 } else { second as usize }
-}
-
-// How many bytes the packet has that starts with these three.
-fn whole_length(checked: bool, first: u8, second: u8, third: u8) -> usize
-    ensures { λ r. ⌜ r ≡ total checked first second third ⌝ }
-{
-    match first {
-        1 | 0x10 | 0x15 | 0x18 => 2 + second as usize,
-        2 => {
-            let data = data_length(second);
-            if checked { data + 3 } else { data + 2 }
-        }
-        5 => { if second == 2 { 3 + third as usize } else { 2 } }
-        _ => 2,
-    }
-}
-
-fn byte_at(b: &[u8], i: usize) -> u8
-    ensures { λ r. ⌜ r ≡ getD (now (b .entry)) i 0 ⌝ }
-{
-    if i < b.len() { b[i] } else { 0 }
-}
-
-// How far the packet at the front of b reaches; checked says whether every DT has a checksum (YappC).
-pub fn span_of(b: &[u8], checked: bool) -> Span
-    ensures { λ r. ⌜ r ≡ spanOf checked (now (b .entry)) ⌝ }
-{
-    if b.len() == 0 {
-        return Span::Open;
-    }
-    let first = byte_at(b, 0);
-    if !is_known(first) {
-        return Span::Drop(1);
-    }
-    if b.len() == 1 {
-        return Span::Open;
-    }
-    let second = byte_at(b, 1);
-    if !is_paired(first, second) {
-        return Span::Drop(2);
-    }
-    let whole = whole_length(checked, first, second, byte_at(b, 2));
-    if whole <= b.len() {
-        Span::Whole(whole)
-    } else {
-        Span::Open
-    }
-}
-
-// How many bytes stand before the data.
-fn lead(first: u8, second: u8) -> usize
-    ensures { λ r. ⌜ r ≡ leadOf first second ⌝ }
-{
-    if first == 5 {
-        if second == 2 {
-            return 3;
-        }
-    }
-    2
-}
-
-// How many bytes stand behind the data.
-fn trail(checked: bool, first: u8) -> usize
-    ensures { λ r. ⌜ r ≡ trailOf checked first ⌝ }
-{
-    if first == 2 {
-        if checked {
-            return 1;
-        }
-    }
-    0
-}
-
-// Where the data stand in a packet of n bytes.
-fn place_at(checked: bool, n: usize, first: u8, second: u8) -> Place
-    ensures { λ r. ⌜ r ≡ placeAt checked n first second ⌝ }
-{
-    let start = lead(first, second);
-    let rest = start + trail(checked, first);
-    if n < rest {
-        return Place { start, len: 0 };
-    }
-    Place {
-        start,
-        len: n - rest,
-    }
-}
-
 // Where the data of the packet stand that b is.
 pub fn place_of(b: &[u8], checked: bool) -> Place
     ensures { λ r. ⌜ r ≡ placeOf checked (now (b .entry)) ⌝ }
 {
-    place_at(checked, b.len(), byte_at(b, 0), byte_at(b, 1))
+    spans::place_at(
+        checked,
+        b.len(),
+        fields::byte_at(b, 0),
+        fields::byte_at(b, 1),
+    )
 }
 
 // The data of the packet that b is.
@@ -401,14 +280,14 @@ fn whole_of(b: &[u8], checked: bool) -> Packet
     ensures { λ r. ⌜ r ≡ wholeOf checked (now (b .entry)) ⌝ }
 {
     let place = place_of(b, checked);
-    let first = byte_at(b, 0);
+    let first = fields::byte_at(b, 0);
     match first {
         1 => header_packet(payload(b, checked)),
         2 => block_packet(checked, place, b),
         3 => Packet::EF,
         4 => Packet::ET,
-        5 => enquiry_packet(byte_at(b, 1), place),
-        6 => acknowledge_of(byte_at(b, 1)),
+        5 => enquiry_packet(fields::byte_at(b, 1), place),
+        6 => acknowledge_of(fields::byte_at(b, 1)),
         0x10 => Packet::TX(place),
         0x15 => nak_packet(payload(b, checked), place),
         _ => Packet::CN(place),
@@ -430,14 +309,14 @@ pub fn packet_in(found: Span, b: &[u8], checked: bool) -> Packet
 pub fn packet_of(b: &[u8], checked: bool) -> Packet
     ensures { λ r. ⌜ r ≡ packetOf checked (now (b .entry)) ⌝ }
 {
-    packet_in(span_of(b, checked), b, checked)
+    packet_in(spans::span_of(b, checked), b, checked)
 }
 
 // The data of the packet at the front of b, as that stretch of b; empty where no whole packet stands there.
 pub fn data_of(b: &[u8], checked: bool) -> &[u8]
     ensures { λ r. ⌜ now r ≡ frontData checked (now (b .entry)) ⌝ }
 {
-    match span_of(b, checked) {
+    match spans::span_of(b, checked) {
         Span::Whole(n) => payload(fields::part(b, 0, n), checked),
         Span::Open => fields::part(b, 0, 0),
         Span::Drop(_) => fields::part(b, 0, 0),

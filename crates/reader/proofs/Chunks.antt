@@ -8,12 +8,12 @@ use Prim.Native.Nat.{ℕ, zero, suc, _+_, _≤_, _<_}
 use native.Mathlib.Omega.{arith}
 use lib.ListN.{length, take, drop, length-append, take-append-drop}
 use lib.Seq.{drop-length, drop-at}
-use Rattle.packets.specs.declared.Span.{Span}
-use Rattle.packets.specs.declared.Span.the-variants.{Open, Whole, Drop}
-use Rattle.packets.specs.Span.{span, sizeOf}
+use Rattle.spans.specs.declared.Span.{Span}
+use Rattle.spans.specs.declared.Span.the-variants.{Open, Whole, Drop}
+use Rattle.spans.specs.Span.{span, sizeOf}
 use Rattle.packets.specs.Packet.{packetIn}
 use Rattle.packets.specs.Content.{contentOf}
-use Rattle.packets.proofs.Laws.{at-none, open-fits}
+use Rattle.spans.proofs.Laws.{at-none, open-fits}
 use Rattle.reader.specs.declared.Reader.{Reader}
 use Rattle.reader.specs.Reader.{Fed, feed, fresh, received}
 use Rattle.reader.specs.Stream.{Piece, Stream, pieceOf, joined, settle, streamFrom, streamOf, Run, noted, ran, handOver, handAll, concat, Bytes}

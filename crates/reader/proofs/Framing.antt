@@ -10,10 +10,10 @@ use native.Mathlib.Omega.{arith}
 use lib.ListN.{length, take, drop, set, length-append, length-set}
 use lib.Seq.{take-suc-set, take-at, append-snoc, drop-append-add, drop-append-seam}
 use borrow.Author.Tests.{lt-ltb}
-use Rattle.packets.specs.declared.Span.{Span}
-use Rattle.packets.specs.declared.Span.the-variants.{Open, Whole, Drop}
-use Rattle.packets.specs.Span.{span, sizeOf}
-use Rattle.packets.proofs.Laws.{grown, size-within, settled-more, open-short, open-before}
+use Rattle.spans.specs.declared.Span.{Span}
+use Rattle.spans.specs.declared.Span.the-variants.{Open, Whole, Drop}
+use Rattle.spans.specs.Span.{span, sizeOf}
+use Rattle.spans.proofs.Laws.{grown, size-within, settled-more, open-short, open-before}
 use Rattle.reader.specs.Reader.{Fed, slot, after, feed}
 
 -- the buffer a holds n pending bytes, p

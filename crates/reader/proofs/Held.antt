@@ -8,10 +8,10 @@ use Prim.Native.Nat.{ℕ, _+_, _≤_, _<_}
 use native.Mathlib.Omega.{arith}
 use lib.ListN.{length, drop, length-append}
 use lib.Seq.{append-snoc, drop-at}
-use Rattle.packets.specs.declared.Span.{Span}
-use Rattle.packets.specs.declared.Span.the-variants.{Open, Whole, Drop}
-use Rattle.packets.specs.Span.{span, sizeOf}
-use Rattle.packets.proofs.Laws.{at-none, grown, size-within, settled-more}
+use Rattle.spans.specs.declared.Span.{Span}
+use Rattle.spans.specs.declared.Span.the-variants.{Open, Whole, Drop}
+use Rattle.spans.specs.Span.{span, sizeOf}
+use Rattle.spans.proofs.Laws.{at-none, grown, size-within, settled-more}
 use Rattle.packets.proofs.Places.{places}
 use Rattle.reader.specs.Stream.{Stream, pieceOf, joined, settle, streamFrom, streamOf}
 

@@ -6,9 +6,9 @@ use mathlib.Core.Bool.{Bool}
 use lib.ListN.{take, set, replicate}
 use lib.Dec.{ltb}
 use Rattle.fields.specs.Pick.{pick}
-use Rattle.packets.specs.declared.Span.{Span}
-use Rattle.packets.specs.declared.Span.the-variants.{Open, Whole, Drop}
-use Rattle.packets.specs.Span.{span}
+use Rattle.spans.specs.declared.Span.{Span}
+use Rattle.spans.specs.declared.Span.the-variants.{Open, Whole, Drop}
+use Rattle.spans.specs.Span.{span}
 use Rattle.packets.specs.Packet.{packetIn}
 use Rattle.reader.specs.declared.Reader.{Reader}
 use Rattle.reader.specs.declared.Received.{Received}

@@ -3,9 +3,9 @@ use Prim.Native.Nat.{ℕ, zero, suc, _+_, _<_}
 use mathlib.Core.List.{List, [], _∷_, _++_}
 use mathlib.Core.Bool.{Bool}
 use lib.ListN.{length, getD, drop}
-use Rattle.packets.specs.declared.Span.{Span}
-use Rattle.packets.specs.declared.Span.the-variants.{Open, Whole, Drop}
-use Rattle.packets.specs.Span.{span}
+use Rattle.spans.specs.declared.Span.{Span}
+use Rattle.spans.specs.declared.Span.the-variants.{Open, Whole, Drop}
+use Rattle.spans.specs.Span.{span}
 use Rattle.packets.specs.Packet.{packetIn}
 use Rattle.packets.specs.Content.{Content, contentOf}
 use Rattle.reader.specs.declared.Reader.{Reader}

@@ -1,6 +1,6 @@
 // Reads YAPP packets that come in chunks of any size.
 use packets::Packet;
-use packets::Span;
+use spans::Span;
 ghost use mathlib.Core.Path.{_≡_};
 ghost use lib.ListN.{length};
 ghost use Prim.Native.Nat.{_<_};
@@ -50,7 +50,7 @@ fn fill(pending: &mut [u8], filled: usize, checked: bool, chunk: &[u8]) -> Fille
         pending[at] = chunk[i];
         n = at + 1;
         i += 1;
-        let found = packets::span_of(&pending[..n], checked);
+        let found = spans::span_of(&pending[..n], checked);
         match found {
             Span::Open => {}
             Span::Whole(w) => {

@@ -2,8 +2,8 @@
 -- Assumes nothing.
 use mathlib.Core.Path.{_≡_, ap, _∙_}
 use denote.Ref.{now}
-use Rattle.packets.specs.declared.Span.the-variants.{Open, Whole, Drop}
-use Rattle.packets.specs.Span.{span}
+use Rattle.spans.specs.declared.Span.the-variants.{Open, Whole, Drop}
+use Rattle.spans.specs.Span.{span}
 use Rattle.packets.specs.Packet.{dataOf}
 use borrow.Author.Needs.{needs}
 use Rattle.packets.proofs.data_of.Statement.{statement}

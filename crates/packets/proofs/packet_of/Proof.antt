@@ -2,7 +2,7 @@
 -- Assumes nothing.
 use mathlib.Core.Path.{ap, _∙_}
 use denote.Ref.{now}
-use Rattle.packets.specs.declared.Span.{Span}
+use Rattle.spans.specs.declared.Span.{Span}
 use Rattle.packets.specs.Packet.{packetIn}
 use borrow.Author.Needs.{needs}
 use Rattle.packets.proofs.packet_of.Statement.{statement}

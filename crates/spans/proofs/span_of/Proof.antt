@@ -1,4 +1,4 @@
--- `packets::span_of` meets its contract: each return is a case of `spanAt`.
+-- `spans::span_of` meets its contract: each return is a case of `spanAt`.
 -- Assumes nothing.
 use mathlib.Core.Path.{_≡_, sym, ap, _∙_}
 use mathlib.Core.Bool.{true, false}
@@ -6,12 +6,12 @@ use native.Mathlib.Omega.{arith}
 use denote.Ref.{now}
 use lib.ListN.{length, getD}
 use borrow.Author.Tests.{not-true, not-false}
-use Rattle.packets.specs.declared.Span.the-variants.{Whole}
-use Rattle.packets.specs.Span.{known, paired, total}
-use Rattle.packets.proofs.Laws.{at-none, at-unknown, at-one, at-wrong, at-whole, at-short}
+use Rattle.spans.specs.declared.Span.the-variants.{Whole}
+use Rattle.spans.specs.Span.{known, paired, total}
+use Rattle.spans.proofs.Laws.{at-none, at-unknown, at-one, at-wrong, at-whole, at-short}
 use borrow.Author.Needs.{needs}
-use Rattle.packets.proofs.span_of.Statement.{statement}
-use Rattle.packets.proofs.span_of.Tie as tie
+use Rattle.spans.proofs.span_of.Statement.{statement}
+use Rattle.spans.proofs.span_of.Tie as tie
 
 returns : tie.Need-returns
 returns c =

@@ -10,10 +10,10 @@ use lib.ListN.{length, getD, take, drop, length-append, List·getD-append, take-
 use lib.Seq.{length-take-le}
 use lib.Dec.{leb, eqb}
 use borrow.Author.Tests.{eqb-true, eqb-false, leb-true, leb-false, le-leb, lt-leb, eq-eqb, ne-eqb}
-use Rattle.packets.specs.declared.Span.{Span}
-use Rattle.packets.specs.declared.Span.the-variants.{Open, Whole, Drop}
+use Rattle.spans.specs.declared.Span.{Span}
+use Rattle.spans.specs.declared.Span.the-variants.{Open, Whole, Drop}
 use Rattle.fields.specs.Pick.{pick}
-use Rattle.packets.specs.Span.{known, paired, counted, dataLength, total, spanAt, span, sizeOf}
+use Rattle.spans.specs.Span.{known, paired, counted, dataLength, total, spanAt, span, sizeOf}
 
 -- A length that does not depend on the third byte; b is the second.
 pub record Fixed (b : ℕ) (f : ℕ → ℕ) : Type 0 where

@@ -1,10 +1,10 @@
--- `packets::place_at` meets its contract: a packet shorter than its lead and trail has no data.
+-- `spans::place_at` meets its contract: a packet shorter than its lead and trail has no data.
 -- Assumes nothing.
 use native.Mathlib.Omega.{arith}
-use Rattle.packets.proofs.Cases.{lead-most, trail-most, place-long, place-short}
+use Rattle.spans.proofs.Bounds.{lead-most, trail-most, place-long, place-short}
 use borrow.Author.Needs.{needs}
-use Rattle.packets.proofs.place_at.Statement.{statement}
-use Rattle.packets.proofs.place_at.Tie as tie
+use Rattle.spans.proofs.place_at.Statement.{statement}
+use Rattle.spans.proofs.place_at.Tie as tie
 
 lead-requires : tie.Need-lead-requires
 lead-requires c κs = search needs

@@ -1,9 +1,9 @@
--- `packets::trail` meets its contract: one byte behind the data of a checked DT, none behind the others.
+-- `spans::trail` meets its contract: one byte behind the data of a checked DT, none behind the others.
 -- Assumes nothing.
 use borrow.Author.Tests.{ne-eqb}
-use Rattle.packets.specs.Span.{trail}
-use Rattle.packets.proofs.trail.Statement.{statement}
-use Rattle.packets.proofs.trail.Tie as tie
+use Rattle.spans.specs.Span.{trail}
+use Rattle.spans.proofs.trail.Statement.{statement}
+use Rattle.spans.proofs.trail.Tie as tie
 
 returns : tie.Need-returns
 unfolding trail

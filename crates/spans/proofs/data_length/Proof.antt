@@ -1,9 +1,9 @@
--- `packets::data_length` meets its contract: 00 is 256, any other byte itself.
+-- `spans::data_length` meets its contract: 00 is 256, any other byte itself.
 -- Assumes nothing.
 use borrow.Author.Tests.{ne-eqb}
-use Rattle.packets.specs.Span.{dataLength}
-use Rattle.packets.proofs.data_length.Statement.{statement}
-use Rattle.packets.proofs.data_length.Tie as tie
+use Rattle.spans.specs.Span.{dataLength}
+use Rattle.spans.proofs.data_length.Statement.{statement}
+use Rattle.spans.proofs.data_length.Tie as tie
 
 returns : tie.Need-returns
 unfolding dataLength

@@ -1,9 +1,9 @@
--- `packets::is_paired` meets its contract: each arm says which test of `paired` holds.
+-- `spans::is_paired` meets its contract: each arm says which test of `paired` holds.
 -- Assumes nothing.
 use borrow.Author.Tests.{le-leb, lt-leb, ne-eqb}
-use Rattle.packets.specs.Span.{paired}
-use Rattle.packets.proofs.is_paired.Statement.{statement}
-use Rattle.packets.proofs.is_paired.Tie as tie
+use Rattle.spans.specs.Span.{paired}
+use Rattle.spans.proofs.is_paired.Statement.{statement}
+use Rattle.spans.proofs.is_paired.Tie as tie
 
 returns : tie.Need-returns
 unfolding paired

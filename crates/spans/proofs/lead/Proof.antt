@@ -1,9 +1,9 @@
--- `packets::lead` meets its contract: three bytes before the data of RI, two before the others.
+-- `spans::lead` meets its contract: three bytes before the data of RI, two before the others.
 -- Assumes nothing.
 use borrow.Author.Tests.{ne-eqb}
-use Rattle.packets.specs.Span.{lead}
-use Rattle.packets.proofs.lead.Statement.{statement}
-use Rattle.packets.proofs.lead.Tie as tie
+use Rattle.spans.specs.Span.{lead}
+use Rattle.spans.proofs.lead.Statement.{statement}
+use Rattle.spans.proofs.lead.Tie as tie
 
 returns : tie.Need-returns
 unfolding lead

@@ -1,13 +1,13 @@
--- `packets::whole_length` meets its contract: each arm says which test of `total` holds.
+-- `spans::whole_length` meets its contract: each arm says which test of `total` holds.
 -- Assumes nothing.
 use mathlib.Core.Logic.{⊎-elim, inl, inr}
 use native.Mathlib.Omega.{arith}
 use borrow.Author.Tests.{ne-eqb}
-use Rattle.packets.specs.Span.{total, counted}
-use Rattle.packets.proofs.Cases.{data-most}
+use Rattle.spans.specs.Span.{total, counted}
+use Rattle.spans.proofs.Bounds.{data-most}
 use borrow.Author.Needs.{needs}
-use Rattle.packets.proofs.whole_length.Statement.{statement}
-use Rattle.packets.proofs.whole_length.Tie as tie
+use Rattle.spans.proofs.whole_length.Statement.{statement}
+use Rattle.spans.proofs.whole_length.Tie as tie
 
 add-result : tie.Need-add-result
 add-result c = search needs

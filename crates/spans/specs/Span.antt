@@ -5,8 +5,8 @@ use mathlib.Core.Bool.{Bool, true, false, _&&_, _||_}
 use lib.ListN.{length, getD}
 use lib.Dec.{leb, eqb}
 use Rattle.fields.specs.Pick.{pick}
-use Rattle.packets.specs.declared.Span.{Span}
-use Rattle.packets.specs.declared.Span.the-variants.{Open, Whole, Drop}
+use Rattle.spans.specs.declared.Span.{Span}
+use Rattle.spans.specs.declared.Span.the-variants.{Open, Whole, Drop}
 use Rattle.fields.specs.declared.Place.{Place}
 
 -- the bytes that start a packet: HD 01, DT 02, EF 03, ET 04, SI and RI 05, the acknowledgements 06, TX 10, NAK 15, CN 18
