@@ -1,0 +1,33 @@
+-- `list_cases::write_end` is safe: the last lines are within the buffer.
+-- Assumes nothing.
+use native.Mathlib.Omega.{arith}
+use lib.ListN.{length-take}
+use borrow.Author.Needs.{needs}
+use Rattle.listing.proofs.Steps.{within}
+use Rattle.list_cases.proofs.write_end.Statement.{statement}
+use Rattle.list_cases.proofs.write_end.Tie as tie
+
+end-requires : tie.Need-end-requires
+end-requires c κs = search needs
+
+array-share-prefix-last : tie.Need-array-share-prefix-last
+array-share-prefix-last c = rw (c .end .ensures .0, c .end .ensures .1) (within _ _)
+
+slice-aggregate-write-all : tie.Need-slice-aggregate-write-all
+slice-aggregate-write-all c = simp length-take (omega (arith, array-share-prefix-last (c .before)))
+
+write-all-requires : tie.Need-write-all-requires
+write-all-requires c κs = search needs
+
+returns : tie.Need-returns
+returns c = search needs
+
+pub write-end-spec : {M : Type 1} → statement M
+write-end-spec =
+    tie.close
+    (tie.spec
+    end-requires
+    array-share-prefix-last
+    slice-aggregate-write-all
+    write-all-requires
+    returns)

@@ -1,0 +1,44 @@
+-- The letters of the kinds, as they stand one behind the other in the code.
+-- Assumes nothing.
+use mathlib.Core.Path.{_≡_, refl}
+use mathlib.Core.List.{List, [], _∷_}
+use mathlib.Core.Bool.{Bool, true, _&&_}
+use mathlib.Core.Logic.{⊎-elim}
+use Prim.Native.Nat.{ℕ, zero, suc, _-_, _*_, _≤_, _<_}
+use native.Mathlib.Omega.{arith}
+use lib.ListN.{length, length-take}
+use Rattle.fields.specs.Lists.{part, same}
+use Rattle.fields.proofs.Lists.{le-or-lt, eq-or-not, both, same-eq}
+use Rattle.packets.specs.Kind.{look}
+use Rattle.listing.specs.Text.{letters}
+
+abbrev pub table : List ℕ
+table = 82 ∷ 82 ∷ 82 ∷ 70 ∷ 65 ∷ 70 ∷ 65 ∷ 84 ∷ 67 ∷ 65 ∷ 82 ∷ 84 ∷ 83 ∷ 73 ∷ 82 ∷ 73 ∷ 72 ∷ 68 ∷ 68 ∷ 84 ∷ 69 ∷ 70 ∷ 69 ∷ 84 ∷ 78 ∷ 82 ∷ 82 ∷ 69 ∷ 67 ∷ 78 ∷ 84 ∷ 88 ∷ 72 ∷ 68 ∷ 66 ∷ 65 ∷ 68 ∷ 67 ∷ 85 ∷ 84 ∷ []
+
+-- f and g agree below n
+abbrev agree : (f g : ℕ → List ℕ) → ℕ → Bool
+agree f g zero = true
+agree f g (suc n) = same (f n) (g n) && agree f g n
+
+agreed : (f g : ℕ → List ℕ) (n : ℕ) → agree f g n ≡ true → (k : ℕ) → k < n → f k ≡ g k
+agreed f g zero h k l = absurd (omega arith)
+agreed f g (suc n) h k l =
+    let b = both (same (f n) (g n)) (agree f g n) h in
+    ⊎-elim (λ e. rw e (same-eq (f n) (g n) (b .0))) (λ e. agreed f g n (b .1) k (omega arith)) (eq-or-not k n)
+
+-- two of each kind but the last two
+pub two : (k : ℕ) → k < 17 → part (2 * k) 2 table ≡ letters k
+unfolding letters look same
+two k h = agreed (λ n. part (2 * n) 2 table) letters 17 refl k h
+
+-- `BAD` and `CUT`
+pub three : (k : ℕ) → 17 ≤ k → k ≤ 18 → part (3 * k - 17) 3 table ≡ letters k
+unfolding letters look
+three k h g = ⊎-elim (λ e. rw e) (λ e. let e′ : k ≡ 18 = omega arith in rw e′) (eq-or-not k 17)
+
+pub short : (k : ℕ) → k ≤ 18 → length (letters k) ≤ 3
+short k h =
+    ⊎-elim
+    (λ (g : 17 ≤ k). rw (← three k g h) (simp length-take (omega arith)))
+    (λ (g : k < 17). rw (← two k g) (simp length-take (omega arith)))
+    (le-or-lt 17 k)

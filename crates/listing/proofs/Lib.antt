@@ -1,0 +1,5 @@
+pub mod Letters
+pub mod Lines
+pub mod Sizes
+pub mod Steps
+pub mod Listing

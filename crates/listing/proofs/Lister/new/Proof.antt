@@ -1,0 +1,14 @@
+-- `listing::Lister::new` meets its contract: a fresh reader at offset 0.
+-- Assumes nothing.
+use borrow.Author.Needs.{needs}
+use Rattle.listing.proofs.Lister.new.Statement.{statement}
+use Rattle.listing.proofs.Lister.new.Tie as tie
+
+new-requires : tie.Need-new-requires
+new-requires c κs = search needs
+
+returns : tie.Need-returns
+returns c = rw (c .new .ensures)
+
+pub new-spec : {M : Type 1} → statement M
+new-spec = tie.close (tie.spec new-requires returns)
