@@ -1,0 +1,141 @@
+-- The receiver of #BIN#: its beginnings, and what each call answers and leaves. (Document 01, "Lines of #BIN#", "The saved record", "Numbers
+-- that refuse or end".)
+use Prim.Native.Nat.{ℕ}
+use mathlib.Core.Bool.{Bool, true, false, _&&_}
+use mathlib.Core.List.{List, []}
+use mathlib.Core.Option.{Option, none, some}
+use lib.ListN.{length, replicate}
+use lib.Dec.{leb}
+use Rattle.fields.specs.Pick.{pick}
+use Rattle.fields.specs.Buffer.{Form, over, appended}
+use Rattle.fields.specs.declared.Place.{Place}
+use Rattle.lines.specs.Frame.{starts, displayMark, shownOf}
+use Rattle.records.specs.declared.RecordRead.{RecordRead}
+use Rattle.records.specs.declared.RecordRead.the-variants.{Good, Unreadable}
+use Rattle.records.specs.Record.{recordOf}
+use Rattle.records.specs.Saved.{Saved, savedOf}
+use Rattle.calls.specs.declared.Outcome.{Outcome}
+use Rattle.calls.specs.declared.Outcome.the-variants.{RecordUnreadable, RecordOver, TimedOut, Stopped}
+use Rattle.calls.specs.declared.Status.{Status}
+use Rattle.calls.specs.declared.Status.the-variants.{Taken, Over, LongFrame, SmallReply, WrongLength}
+use Rattle.calls.specs.Checks.{checkOf}
+use Rattle.calls.specs.Saving.{savedBy, keepingOf, nameOf, formBy}
+use Rattle.bin.specs.declared.ReceiverState.{ReceiverState}
+use Rattle.bin.specs.declared.ReceiverState.the-variants.{Waiting, Basic, Extended, Ended}
+use Rattle.bin_receiver.specs.declared.Receiver.{Receiver}
+use Rattle.bin_receiver.specs.declared.ReceiverAnswer.{ReceiverAnswer}
+use Rattle.bin.specs.Steps.{joined, ReceiverSettings, ReceiverMove, receiverTakes, receiverFails, receiverEnded}
+
+-- ---- the beginnings
+
+-- a receiver in a state, with a record or none
+abbrev pub receiverWith : ReceiverState → ℕ → Bool → Option Saved → Receiver
+receiverWith st room resumes v = record {
+  name = appended 0 (nameOf v) (replicate 64 0);
+  core = record { state = st; room = room; resumes = resumes; keeping = keepingOf v };
+}
+
+-- with no record
+unfoldable pub fresh : ℕ → Bool → Receiver
+fresh room resumes = receiverWith Waiting room resumes none
+
+-- kept over size, or size over area (2)
+unfoldable pub withSaved : ℕ → Bool → Saved → Receiver
+withSaved room resumes v =
+    pick (leb (v .kept) (v .size) && leb (v .size) room) (receiverWith Waiting room resumes (some v))
+    (receiverWith (Ended RecordOver) room resumes none)
+
+abbrev pub resumeBy : ℕ → Bool → List ℕ → RecordRead → Receiver
+resumeBy room resumes b (Good r) = withSaved room resumes (savedOf b r)
+resumeBy room resumes b Unreadable = receiverWith (Ended RecordUnreadable) room resumes none
+
+-- from a record's bytes; one that is unreadable is 1
+unfoldable pub resume : List ℕ → ℕ → Bool → Receiver
+resume b room resumes = resumeBy room resumes b (recordOf b)
+
+-- ---- the calls
+
+-- what a call leaves: its answer, and every byte of area and reply buffer
+pub record ReceiverAfter : Type 0 where
+  pub answer : ReceiverAnswer
+  pub area : List ℕ
+  pub reply : List ℕ
+
+abbrev pub settingsOf : Receiver → ReceiverSettings
+settingsOf m = record { room = m .core .room; resumes = m .core .resumes }
+
+abbrev pub savedIn : Receiver → Option Saved
+savedIn m = savedBy (m .core .keeping) (m .name)
+
+abbrev pub nowhere : Place
+nowhere = record { start = 0; len = 0 }
+
+-- a refused call changes nothing anywhere
+abbrev pub refusedCall : Receiver → Status → List ℕ → List ℕ → ReceiverAfter
+refusedCall m s area reply =
+    record { answer = record { receiver = m; status = s; sent = 0; stored = 0; shown = nowhere }; area = area; reply = reply }
+
+-- the frame that is sent stands at the front of the reply buffer
+abbrev pub replied : Receiver → Place → ReceiverMove → List ℕ → ReceiverAfter
+replied m shown a reply = record {
+  answer = record {
+    receiver = record {
+      name = appended 0 (nameOf (a .saved)) (m .name);
+      core = record { state = a .state; room = m .core .room; resumes = m .core .resumes; keeping = keepingOf (a .saved) };
+    };
+    status = Taken;
+    sent = length (joined (a .out));
+    stored = a .stored;
+    shown = shown;
+  };
+  area = a .area;
+  reply = over 0 (joined (a .out)) reply;
+}
+
+abbrev pub statusOf : Receiver → ℕ → List ℕ → List ℕ → Status
+statusOf m frame area reply = checkOf (receiverEnded (m .core .state)) (length reply) frame (length area) (m .core .room)
+
+abbrev pub unlessRefused : Status → Receiver → List ℕ → List ℕ → ReceiverAfter → ReceiverAfter
+unlessRefused Taken m area reply after = after
+unlessRefused Over m area reply after = refusedCall m Over area reply
+unlessRefused LongFrame m area reply after = refusedCall m LongFrame area reply
+unlessRefused SmallReply m area reply after = refusedCall m SmallReply area reply
+unlessRefused WrongLength m area reply after = refusedCall m WrongLength area reply
+
+-- leave changes nothing
+unfoldable pub transmit : Receiver → List ℕ → List ℕ → ReceiverAfter
+transmit m area reply = refusedCall m (statusOf m 0 area reply) area reply
+
+-- a display frame of an accepted transfer: the text behind `SP\-`
+abbrev pub isTaking : ReceiverState → Bool
+isTaking Waiting = false
+isTaking (Basic size kept) = true
+isTaking (Extended crc) = true
+isTaking (Ended o) = false
+
+unfoldable pub shownIn : ReceiverState → List ℕ → Place
+shownIn st f = pick (isTaking st && starts displayMark f) (shownOf f) nowhere
+
+-- a frame has arrived
+unfoldable pub receive : Receiver → List ℕ → List ℕ → List ℕ → ReceiverAfter
+receive m frame area reply =
+    unlessRefused (statusOf m (length frame) area reply) m area reply
+    (replied m (shownIn (m .core .state) frame) (receiverTakes (settingsOf m) (m .core .state) (savedIn m) area frame) reply)
+
+-- the timer ran out
+unfoldable pub timeout : Receiver → List ℕ → List ℕ → ReceiverAfter
+timeout m area reply =
+    unlessRefused (statusOf m 0 area reply) m area reply
+    (replied m nowhere (receiverFails TimedOut (m .core .state) (savedIn m) area) reply)
+
+-- the operator's stop
+unfoldable pub cancel : Receiver → List ℕ → List ℕ → ReceiverAfter
+cancel m area reply =
+    unlessRefused (statusOf m 0 area reply) m area reply
+    (replied m nowhere (receiverFails Stopped (m .core .state) (savedIn m) area) reply)
+
+-- ---- the record
+
+-- the record's bytes, in every state; none where there is none
+abbrev pub recordBy : Receiver → Option Form
+recordBy m = formBy (savedIn m)

@@ -1,0 +1,16 @@
+-- The checks of a call. (Document 01: "Calls are checked 18, 20, 19, 40".)
+use Prim.Native.Nat.{ℕ}
+use mathlib.Core.Bool.{Bool, true, false}
+use lib.Dec.{ltb, eqb}
+use Rattle.fields.specs.Pick.{pick}
+use Rattle.calls.specs.declared.Status.{Status}
+use Rattle.calls.specs.declared.Status.the-variants.{Taken, Over, LongFrame, SmallReply, WrongLength}
+
+-- whether the end has ended, the length of the reply buffer, the length of the frame, the lengths of what is lent and of what was given
+-- at the start
+unfoldable pub checkOf : Bool → ℕ → ℕ → ℕ → ℕ → Status
+checkOf ended reply frame lent given =
+    pick ended Over
+    (pick (ltb reply 259) SmallReply
+    (pick (ltb 256 frame) LongFrame
+    (pick (eqb lent given) Taken WrongLength)))

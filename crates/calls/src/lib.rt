@@ -1,0 +1,71 @@
+// What the calls of every sender and receiver have in common.
+use fields::Stamp;
+
+// How an end ended. The first number stays through CW. A beginning that is refused (1 to 5) gives an end that has ended.
+pub enum Outcome {
+    // 0
+    Success,
+    // 1: the record is unreadable.
+    RecordUnreadable,
+    // 2: the record keeps more than its size, or its size is over the area.
+    RecordOver,
+    // 3, 4, 5: the name, the file's length or the block is outside the limits.
+    NameOutside,
+    LengthOutside,
+    BlockOutside,
+    // 6: a packet that is not in the state's row, or unreadable bytes.
+    Unexpected,
+    // 7: a malformed header, line or OK.
+    Malformed,
+    // 8: the file is larger than the area.
+    NoRoom,
+    // 9: there is a record, and no resume.
+    HaveFile,
+    // 10: the record's name or size is another.
+    Differs,
+    // 11: a checksum or CRC disagrees.
+    CheckFailed,
+    // 12: data past the announced size.
+    PastSize,
+    // 13: the end of the file before the announced size.
+    Short,
+    // 14: the far end refused.
+    Refused,
+    // 15: the far end cancelled.
+    Cancelled,
+    // 16: a resume position or CRC that is not ours.
+    NotOurs,
+    // 17: the timer ran out.
+    TimedOut,
+    // 21: a second file.
+    SecondFile,
+    // 23: the operator's stop.
+    Stopped,
+}
+
+// Whether a call was taken, or why it was refused: a refused call changes nothing anywhere.
+pub enum Status {
+    Taken,
+    // 18: the end has ended.
+    Over,
+    // 19: a frame over 256 bytes.
+    LongFrame,
+    // 20: a reply buffer under 259 bytes.
+    SmallReply,
+    // 40: the lent file or area is not of the length given at the start.
+    WrongLength,
+}
+
+// A record of a file but for the bytes of its name, which stand in an array beside it.
+pub struct Entry {
+    // How long the name is.
+    pub named: usize,
+    pub size: u32,
+    pub kept: u32,
+    pub stamp: Stamp,
+}
+
+pub enum Keeping {
+    Nothing,
+    Of(Entry),
+}

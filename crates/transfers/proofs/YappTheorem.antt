@@ -1,0 +1,378 @@
+-- Demand 3 for one session by YAPP: what it leaves is again as it has to be, and without timers and stops, run to its end, it is complete.
+-- Assumes nothing.
+use Prim.Native.Nat.{ℕ, _+_, _≤_}
+use mathlib.Core.Path.{_≡_, refl, ap, sym, _∙_}
+use mathlib.Core.Bool.{Bool, true, false, false≢true}
+use mathlib.Core.List.{List, [], _∷_, append-nil}
+use mathlib.Core.Option.{Option, none, some}
+use mathlib.Core.Logic.{_⊎_, inl, inr}
+use native.Mathlib.Omega.{arith}
+use native.Mathlib.Nat.{add-zero, sub-zero}
+use lib.ListN.{length, take, drop, replicate, length-append, length-replicate}
+use lib.Seq.{take-append-seam, take-length}
+use lib.Dec.{ltb}
+use borrow.Author.Tests.{ltb-true, le-leb, le-ltb, eq-eqb}
+use Rattle.fields.specs.Buffer.{over}
+use Rattle.fields.specs.declared.Place.{Place}
+use Rattle.fields.proofs.Lists.{name-length}
+use Rattle.records.specs.Saved.{Saved, recordBytes}
+use Rattle.packets.specs.Content.{Content}
+use Rattle.reader.specs.declared.Reader.{Reader}
+use Rattle.reader.specs.Reader.{fresh as freshReader, receive as reads}
+use Rattle.reader.proofs.Framing.{Waits}
+use Rattle.calls.specs.declared.Outcome.the-variants.{Success}
+use Rattle.calls.specs.declared.Status.{Status}
+use Rattle.calls.specs.declared.Status.the-variants.{Taken, Over, LongFrame, SmallReply, WrongLength}
+use Rattle.calls.specs.Checks.{checkOf}
+use Rattle.calls.specs.Saving.{savedBy, nameOf, keptOf}
+use Rattle.yapp.specs.declared.SenderState.{SenderState}
+use Rattle.yapp.specs.declared.SenderState.the-variants.{Ended}
+use Rattle.yapp.specs.declared.ReceiverState.{ReceiverState}
+use Rattle.yapp.specs.declared.ReceiverState.the-variants.{R, Ended as REnded}
+use Rattle.yapp_sender.specs.declared.Sender.{Sender}
+use Rattle.yapp_receiver.specs.declared.Receiver.{Receiver}
+use Rattle.yapp.specs.Steps.{SenderSettings, SenderMove, ReceiverMove, writes, sends, senderLeaves, senderTimes, senderStops, receiverTimes, receiverStops, senderEnded, receiverEnded}
+use Rattle.yapp_sender.specs.Sender.{SenderAfter, heard, nowhere, shownIn, settingsOf, replied, arrived, refusedCall, statusOf, unlessRefused, begin, begunSender, transmit, receive, timeout, cancel}
+use Rattle.calls.specs.Saving.{formBy}
+use Rattle.yapp_receiver.specs.Receiver.{ReceiverAfter, settingsOf as settingsR, nowOf, replied as repliedR, arrived as arrivedR, refusedCall as refusedR, statusOf as statusR, unlessRefused as unlessR, receiverWith, fresh, withSaved, resumeBy, resume, transmit as transmitR′, receive as receiveR′, timeout as timeoutR′, cancel as cancelR′}
+use Rattle.transfers.specs.World.{World, Left, Act, transmitS, timeoutS, cancelS, transmitR, timeoutR, cancelR, receiveS, receiveR, Call, lentOr, ours, savedBytes, Calm, AllCalm}
+use Rattle.transfers.specs.Yapp.{Settings, Config, receiverBy, begins, stepS, stepR, made, statusIn, stepBy, step, runs, Fair, own, refused, Fairly, Quiet, Complete, leaves}
+use Rattle.transfers.proofs.Stored.{Ours, Stored, Between, ours-bytes, ours-back, name-back, saved-back, name-room, name-short}
+use Rattle.transfers.proofs.YappPhases.{machine, called, again, sent, block, senderSet, receiverSet, Good, g0, g1, g2, g3, g4, g5, g6, g7, g8, g9, g10}
+use Rattle.transfers.proofs.YappGood.{nextBlock, next-is, blockMove}
+use Rattle.transfers.proofs.YappWire.{Formed, word-si, word-ef, block-formed, writes-cons, some-bytes, fall-none, fall-is, Encodes, idle, encodes-quiet}
+use Rattle.transfers.proofs.YappBytes.{WInv, in-phase, Moved, Came, wire-leaves, wire-times, wire-stops, wire-heard, wire-timesR, wire-stopsR, wire-came}
+
+-- the record that a receiver holds
+abbrev savedIn : Receiver → Option Saved
+savedIn m = savedBy (m .core .keeping) (m .name)
+
+-- a buffer of zeros
+abbrev zeros : ℕ → List ℕ
+zeros n = replicate n 0
+
+zeros-length : (n : ℕ) → length (zeros n) ≡ n
+zeros-length n = length-replicate {A = ℕ} n 0
+
+-- what is sent stands at the front of the reply buffer
+sent-is : (bs d : List ℕ) → take (length bs) (over 0 bs d) ≡ bs
+unfolding over
+sent-is bs d = take-append-seam bs (drop (0 + length bs) d)
+
+module _ (w : World) (t : Settings) where
+  -- the settings stand in the two ends, and the invariant holds
+  pub record Holds (o : Bool) (c : Config) : Type 0 where
+    pub sender-set : settingsOf (c .snd) ≡ senderSet w t
+    pub receiver-set : settingsR (c .rcv) ≡ receiverSet w t
+    pub array : length (c .rcv .name) ≡ 64
+    pub inv : WInv w t (c .snd .core .state) (c .snd .reader) (c .rcv .core .state) (c .rcv .reader) (savedIn (c .rcv)) (c .toR) (c .toS) o
+    pub kept : Stored w (savedIn (c .rcv)) (c .area) (c .tally)
+
+  -- ---- a call that is refused changes nothing
+
+  same-S : (c : Config) (s : Status) (reply : List ℕ) → stepS c (refusedCall (c .snd) s reply) ≡ c
+  same-S c s reply = rw (append-nil (c .toR))
+
+  lent-back : (area : List ℕ) (lent : Option (List ℕ)) → ours area (lentOr area lent) lent ≡ area
+  lent-back area none = refl
+  lent-back area (some l) = refl
+
+  same-R : (c : Config) (lent : Option (List ℕ)) (s : Status) (reply : List ℕ) → stepR c lent (refusedR (c .rcv) s (lentOr (c .area) lent) reply) ≡ c
+  same-R c lent s reply = rw (append-nil (c .toS), fall-none, sub-zero (c .tally), add-zero (c .tally), lent-back (c .area) lent)
+
+  module _ {o : Bool} (c : Config) (h : Holds o c) where
+    refused-S : (s : Status) (reply : List ℕ) → Holds o (stepS c (refusedCall (c .snd) s reply))
+    refused-S s reply = rw (same-S c s reply) h
+
+    refused-R : (lent : Option (List ℕ)) (s : Status) (reply : List ℕ) → Holds o (stepR c lent (refusedR (c .rcv) s (lentOr (c .area) lent) reply))
+    refused-R lent s reply = rw (same-R c lent s reply) h
+
+    -- ---- a call that is taken
+
+    moved-S : {p : Bool} (r : Reader) (taken : ℕ) (shown : Place) (a : SenderMove) (reply : List ℕ)
+        → Moved w t a r (c .rcv .core .state) (c .rcv .reader) (savedIn (c .rcv)) (c .toR) (drop taken (c .toS)) p
+        → Holds p (stepS c (replied (c .snd) r taken shown a reply))
+    moved-S r taken shown a reply i =
+        rw (sent-is (writes (a .checked) (a .out)) reply)
+        (record { sender-set = h .sender-set; receiver-set = h .receiver-set; array = h .array; inv = i; kept = h .kept })
+
+    moved-R : {p : Bool} (r : Reader) (taken : ℕ) (a : ReceiverMove) (reply : List ℕ)
+        → Came w t (c .snd .core .state) (c .snd .reader) (c .toS) p (c .tally) r (drop taken (c .toR)) a
+        → Holds p (stepR c none (repliedR (c .rcv) r taken a reply))
+    moved-R r taken a reply i =
+        let n = name-short w (a .saved) (i .stored .ours) in
+        let b = saved-back (a .saved) (c .rcv .name) (h .array) n in
+        rw (sent-is (writes (a .checked) (a .out)) reply, fall-is (a .checked) (i .brief))
+        (record {
+          sender-set = h .sender-set;
+          receiver-set = h .receiver-set;
+          array = name-room (nameOf (a .saved)) (c .rcv .name) (h .array) n;
+          inv = rw b (i .inv);
+          kept = rw b (i .stored);
+        })
+
+    -- ---- by the status
+
+    by-status-S : (s : Status) (reply : List ℕ) (a : SenderAfter) → (s ≡ Taken → Holds o (stepS c a)) → Holds o (stepS c (unlessRefused s (c .snd) reply a))
+    by-status-S Taken reply a g = g refl
+    by-status-S Over reply a g = refused-S Over reply
+    by-status-S LongFrame reply a g = refused-S LongFrame reply
+    by-status-S SmallReply reply a g = refused-S SmallReply reply
+    by-status-S WrongLength reply a g = refused-S WrongLength reply
+
+    by-status-R : (s : Status) (lent : Option (List ℕ)) (reply : List ℕ) (a : ReceiverAfter) → (s ≡ Taken → Holds o (stepR c lent a))
+        → Holds o (stepR c lent (unlessR s (c .rcv) (lentOr (c .area) lent) reply a))
+    by-status-R Taken lent reply a g = g refl
+    by-status-R Over lent reply a g = refused-R lent Over reply
+    by-status-R LongFrame lent reply a g = refused-R lent LongFrame reply
+    by-status-R SmallReply lent reply a g = refused-R lent SmallReply reply
+    by-status-R WrongLength lent reply a g = refused-R lent WrongLength reply
+
+  -- a call that is lent its own, or refused: a is what it answers if it is taken
+  by-serving-S : {o : Bool} (c : Config) (reply : List ℕ) {lent : Option (List ℕ)} (s : Status) {z : Status} (a : Option (List ℕ) → SenderAfter)
+      → Fair w lent z → unlessRefused s (c .snd) reply (a lent) .answer .status ≡ z → a lent .answer .status ≡ Taken → Holds o c
+      → Holds o (stepS c (a none)) → Holds o (stepS c (unlessRefused s (c .snd) reply (a lent)))
+  by-serving-S c reply s a own e q h g = by-status-S c h s reply (a none) (λ x. g)
+  by-serving-S c reply {lent} s a (refused n) e q h g = by-status-S c h s reply (a lent) (λ (x : s ≡ Taken). absurd (n (sym (rw x at e) ∙ q)))
+
+  by-serving-R : {o : Bool} (c : Config) (reply : List ℕ) {lent : Option (List ℕ)} (s : Status) {z : Status} (a : Option (List ℕ) → ReceiverAfter)
+      → Fair w lent z → unlessR s (c .rcv) (lentOr (c .area) lent) reply (a lent) .answer .status ≡ z → a lent .answer .status ≡ Taken → Holds o c
+      → Holds o (stepR c none (a none)) → Holds o (stepR c lent (unlessR s (c .rcv) (lentOr (c .area) lent) reply (a lent)))
+  by-serving-R c reply s a own e q h g = by-status-R c h s none reply (a none) (λ x. g)
+  by-serving-R c reply {lent} s a (refused n) e q h g = by-status-R c h s lent reply (a lent) (λ (x : s ≡ Taken). absurd (n (sym (rw x at e) ∙ q)))
+
+  -- ---- every call
+
+  module _ (c : Config) where
+    -- what each call answers that is not refused
+    abbrev leavesS : List ℕ → Option (List ℕ) → SenderAfter
+    leavesS reply l =
+        replied (c .snd) (c .snd .reader) 0 nowhere
+        (senderLeaves (settingsOf (c .snd)) (lentOr (w .file) l) (c .snd .core .state) (c .snd .reader .checked)) reply
+
+    abbrev timesS : List ℕ → Option (List ℕ) → SenderAfter
+    timesS reply l = replied (c .snd) (c .snd .reader) 0 nowhere (senderTimes (c .snd .core .state) (c .snd .reader .checked)) reply
+
+    abbrev stopsS : List ℕ → Option (List ℕ) → SenderAfter
+    stopsS reply l = replied (c .snd) (c .snd .reader) 0 nowhere (senderStops (c .snd .core .state) (c .snd .reader .checked)) reply
+
+    abbrev hearsS : ℕ → List ℕ → Option (List ℕ) → SenderAfter
+    hearsS n reply l = arrived (c .snd) (reads (c .snd .reader) (take n (c .toS))) reply
+
+    abbrev timesR : List ℕ → Option (List ℕ) → ReceiverAfter
+    timesR reply l = repliedR (c .rcv) (c .rcv .reader) 0 (receiverTimes (nowOf (c .rcv)) (lentOr (c .area) l) (c .rcv .core .state)) reply
+
+    abbrev stopsR : List ℕ → Option (List ℕ) → ReceiverAfter
+    stopsR reply l = repliedR (c .rcv) (c .rcv .reader) 0 (receiverStops (nowOf (c .rcv)) (lentOr (c .area) l) (c .rcv .core .state)) reply
+
+    abbrev hearsR : ℕ → List ℕ → Option (List ℕ) → ReceiverAfter
+    hearsR n reply l = arrivedR (c .rcv) (reads (c .rcv .reader) (take n (c .toR))) (lentOr (c .area) l) reply
+
+  module _ {o : Bool} (c : Config) (h : Holds o c) where
+    leaves-S : (reply : List ℕ) → Holds o (stepS c (leavesS c reply none))
+    leaves-S reply = rw (h .sender-set) (moved-S c h (c .snd .reader) 0 nowhere _ reply (wire-leaves w t _ _ _ _ _ _ _ (h .inv)))
+
+    hears-S : (n : ℕ) (reply : List ℕ) → Holds o (stepS c (hearsS c n reply none))
+    hears-S n reply =
+        let g = reads (c .snd .reader) (take n (c .toS)) in
+        rw (h .sender-set)
+        (moved-S c h (g .reader) (g .taken) (shownIn (c .snd .core .state) (heard g) g) _ reply (wire-heard w t _ _ _ _ _ _ _ n (h .inv)))
+
+    times-S : (reply : List ℕ) → Holds false (stepS c (timesS c reply none))
+    times-S reply = moved-S c h (c .snd .reader) 0 nowhere _ reply (wire-times w t _ _ _ _ _ _ _ (h .inv))
+
+    stops-S : (reply : List ℕ) → Holds false (stepS c (stopsS c reply none))
+    stops-S reply = moved-S c h (c .snd .reader) 0 nowhere _ reply (wire-stops w t _ _ _ _ _ _ _ (h .inv))
+
+    hears-R : (n : ℕ) (reply : List ℕ) → Holds o (stepR c none (hearsR c n reply none))
+    hears-R n reply =
+        let g = reads (c .rcv .reader) (take n (c .toR)) in
+        rw (h .receiver-set) (moved-R c h (g .reader) (g .taken) _ reply (wire-came w t _ _ _ _ _ _ _ (c .area) (c .tally) (h .kept) n (h .inv)))
+
+    times-R : (reply : List ℕ) → Holds false (stepR c none (timesR c reply none))
+    times-R reply = moved-R c h (c .rcv .reader) 0 _ reply (wire-timesR w t _ _ _ _ _ _ _ (c .area) (c .tally) (h .kept))
+
+    stops-R : (reply : List ℕ) → Holds false (stepR c none (stopsR c reply none))
+    stops-R reply = moved-R c h (c .rcv .reader) 0 _ reply (wire-stopsR w t _ _ _ _ _ _ _ (c .area) (c .tally) (h .kept))
+
+    pub calm-step : (act : Act) (reply : List ℕ) (lent : Option (List ℕ)) → Calm act → Fair w lent (statusIn w (made w act c reply lent))
+        → Holds o (stepBy w c lent (made w act c reply lent))
+    unfolding transmit receive transmitR′ receiveR′
+    calm-step transmitS reply lent q f =
+        by-serving-S c reply (statusOf (c .snd) (lentOr (w .file) lent) reply) (leavesS c reply) f refl refl h (leaves-S reply)
+    calm-step (receiveS n) reply lent q f =
+        by-serving-S c reply (statusOf (c .snd) (lentOr (w .file) lent) reply) (hearsS c n reply) f refl refl h (hears-S n reply)
+    calm-step timeoutS reply lent q f = absurd q
+    calm-step cancelS reply lent q f = absurd q
+    calm-step transmitR reply lent q f = refused-R c h lent (statusR (c .rcv) (lentOr (c .area) lent) reply) reply
+    calm-step (receiveR n) reply lent q f =
+        by-serving-R c reply (statusR (c .rcv) (lentOr (c .area) lent) reply) (hearsR c n reply) f refl refl h (hears-R n reply)
+    calm-step timeoutR reply lent q f = absurd q
+    calm-step cancelR reply lent q f = absurd q
+
+  pub any-step : (c : Config) → Holds false c → (act : Act) (reply : List ℕ) (lent : Option (List ℕ)) → Fair w lent (statusIn w (made w act c reply lent))
+      → Holds false (stepBy w c lent (made w act c reply lent))
+  unfolding timeout cancel timeoutR′ cancelR′
+  any-step c h transmitS reply lent f = calm-step c h transmitS reply lent tt f
+  any-step c h (receiveS n) reply lent f = calm-step c h (receiveS n) reply lent tt f
+  any-step c h timeoutS reply lent f =
+      by-serving-S c reply (statusOf (c .snd) (lentOr (w .file) lent) reply) (timesS c reply) f refl refl h (times-S c h reply)
+  any-step c h cancelS reply lent f =
+      by-serving-S c reply (statusOf (c .snd) (lentOr (w .file) lent) reply) (stopsS c reply) f refl refl h (stops-S c h reply)
+  any-step c h transmitR reply lent f = calm-step c h transmitR reply lent tt f
+  any-step c h (receiveR n) reply lent f = calm-step c h (receiveR n) reply lent tt f
+  any-step c h timeoutR reply lent f =
+      by-serving-R c reply (statusR (c .rcv) (lentOr (c .area) lent) reply) (timesR c reply) f refl refl h (times-R c h reply)
+  any-step c h cancelR reply lent f =
+      by-serving-R c reply (statusR (c .rcv) (lentOr (c .area) lent) reply) (stopsR c reply) f refl refl h (stops-R c h reply)
+
+  -- ---- every list of calls
+
+  any-run : (ks : List Call) (c : Config) → Fairly w ks c → Holds false c → Holds false (runs w ks c)
+  any-run [] c f h = h
+  any-run (k ∷ ks) c f h = any-run ks (step w k c) (f .1) (any-step c h (k .act) (k .reply) (k .lent) (f .0))
+
+  calm-run : (ks : List Call) (c : Config) → AllCalm ks → Fairly w ks c → Holds true c → Holds true (runs w ks c)
+  calm-run [] c q f h = h
+  calm-run (k ∷ ks) c q f h = calm-run ks (step w k c) (q .1) (f .1) (calm-step c h (k .act) (k .reply) (k .lent) (q .0) (f .0))
+
+  -- ---- the beginning: neither end is refused
+
+  sender-begins : begin (w .name) (length (w .file)) (t .block) (t .stamp) true ≡ begunSender (w .name) (length (w .file)) (t .block) (t .stamp) true
+  unfolding begin
+  sender-begins = rw (w .named, le-leb (length (w .file)) 99999999 (w .size), le-leb 1 (t .block) (t .block-some), le-leb (t .block) 256 (t .block-most))
+
+  module _ (room : ℕ) (checks : Bool) (enough : length (w .file) ≤ room) where
+    with-ours : (v : Saved) → Ours w v → withSaved room true checks v ≡ receiverWith R room true checks (some v)
+    unfolding withSaved
+    with-ours v q = rw (le-leb (v .kept) (v .size) (omega (arith, q .kept, q .size)), le-leb (v .size) room (omega (arith, q .size)))
+
+    receiver-begins : (v : Option Saved) → ((u : Saved) → v ≡ some u → Ours w u)
+        → receiverBy room checks (savedBytes (formBy v)) ≡ receiverWith R room true checks v
+    unfolding fresh resume
+    receiver-begins none o = refl
+    receiver-begins (some v) o =
+        let q = o v refl in
+        let b = ours-back w v q in
+        ap (receiverBy room checks) (ours-bytes w v q) ∙ ap (resumeBy room true checks (recordBytes v)) (b .1)
+        ∙ ap (withSaved room true checks) (b .2) ∙ with-ours v q
+
+  -- the two ends as they begin
+  abbrev opened : Option Saved → Left → Config
+  opened v l = record {
+    snd = begunSender (w .name) (length (w .file)) (t .block) (t .stamp) true;
+    rcv = receiverWith R (length (w .area)) true (t .checks) v;
+    area = l .area;
+    toR = [];
+    toS = [];
+    tally = l .tally;
+  }
+
+  fresh-waits : Waits (freshReader false .pending) 0 []
+  fresh-waits = record { room = zeros-length 259; count = refl; bytes = refl }
+
+  opened-holds : {o : Bool} (v : Option Saved) (l : Left) → Stored w v (l .area) (l .tally) → Holds o (opened v l)
+  opened-holds v l h =
+      let a = zeros-length 64 in
+      let n = name-short w v (h .ours) in
+      record {
+        sender-set = rw (name-back (w .name) (zeros 64) a (name-length (w .name) (w .named) .1));
+        receiver-set = refl;
+        array = name-room (nameOf v) (zeros 64) a n;
+        inv = in-phase g0 (idle fresh-waits refl) (idle fresh-waits refl);
+        kept = rw (saved-back v (zeros 64) a n) h;
+      }
+
+  begun : {o : Bool} (l : Left) → Between w l → Holds o (begins w t l)
+  begun l b =
+      rw (sender-begins, b .bytes, receiver-begins (length (w .area)) (t .checks) (w .fits) (b .saved) (b .stored .ours))
+      (opened-holds (b .saved) l (b .stored))
+
+  -- ---- the end: a good phase that is quiescent is the last
+
+  nonempty : {P : Type 0} {c : Content} {l : List Content} → c ∷ l ≡ [] → P
+  nonempty e = let z : _≡_ {A = ℕ} 0 1 = cc in absurd (omega arith)
+
+  -- something is on the way to an end that has not ended
+  busy : {P : Type 0} {c : Content} {l : List Content} → (false ≡ true) ⊎ (c ∷ l ≡ []) → P
+  busy (inl e) = absurd (false≢true e)
+  busy (inr e) = nonempty e
+
+  -- something would be sent
+  talks : {P : Type 0} (m : Bool) {c : Content} → Formed c → (l : List Content) → length (writes m (c ∷ l)) ≡ 0 → P
+  talks m f l e = absurd (omega (arith, ap length (writes-cons m f l), length-append (f .inBytes m) (writes m l), some-bytes m f))
+
+  record Done (st : SenderState) (rs : ReceiverState) (v : Option Saved) : Type 0 where
+    sender : st ≡ Ended Success
+    receiver : rs ≡ REnded Success
+    kept : keptOf v ≡ length (w .file)
+
+  last-block : {P : Type 0} (b : Bool) (p : ℕ) (x : Bool) → ltb p (length (w .file)) ≡ x
+      → length (writes (blockMove w t p b x .checked) (blockMove w t p b x .out)) ≡ 0 → P
+  last-block b p true e z =
+      let q = next-is w t p (ltb-true p (length (w .file)) e) in
+      talks b (block-formed (nextBlock w t p) (q .filled) (q .most)) [] z
+  last-block b p false e z = talks b (word-ef .formed) [] z
+
+  -- what a leave would send
+  abbrev leaving : SenderState → Bool → List ℕ
+  leaving st a = writes (senderLeaves (senderSet w t) (w .file) st a .checked) (senderLeaves (senderSet w t) (w .file) st a .out)
+
+  last : {st : SenderState} {a : Bool} {rs : ReceiverState} {b : Bool} {v : Option Saved} {lr ls : List Content} → Good w t st a rs b v lr ls
+      → (senderEnded st ≡ true) ⊎ (ls ≡ []) → (receiverEnded rs ≡ true) ⊎ (lr ≡ [])
+      → (senderEnded st ≡ false → length (leaving st a) ≡ 0) → Done st rs v
+  unfolding machine
+  last (g0 {a = a}) x y z = talks a (word-si .formed) [] (z refl)
+  last (g1 called) x y z = busy y
+  last (g1 (again c)) x y z = busy y
+  last (g2 c) x y z = busy x
+  last (g3 called) x y z = busy y
+  last (g3 (again c)) x y z = busy y
+  last (g4 q) x y z = busy x
+  last (g5 {b = b} {p = p} h r) x y z = last-block b p (ltb p (length (w .file))) refl (z refl)
+  last (g6 sent) x y z = busy y
+  last (g6 (block d h r)) x y z = busy y
+  last g7 x y z = busy x
+  last g8 x y z = busy y
+  last g9 x y z = busy x
+  last g10 x y z = record { sender = refl; receiver = refl; kept = refl }
+
+  -- nothing on the way over bytes is nothing over packets
+  quiet-side : {r : Reader} {b : Bool} {flight : List ℕ} {l : List Content} → Encodes r flight l → (b ≡ true) ⊎ (flight ≡ []) → (b ≡ true) ⊎ (l ≡ [])
+  quiet-side e (inl q) = inl q
+  quiet-side e (inr q) = inr (encodes-quiet (rw q at e))
+
+  wire-last : {st : SenderState} {sr : Reader} {rs : ReceiverState} {rr : Reader} {v : Option Saved} {br bs : List ℕ} → WInv w t st sr rs rr v br bs true
+      → (senderEnded st ≡ true) ⊎ (bs ≡ []) → (receiverEnded rs ≡ true) ⊎ (br ≡ [])
+      → (senderEnded st ≡ false → length (leaving st (sr .checked)) ≡ 0) → Done st rs v
+  wire-last (in-phase g e f) x y z = last g (quiet-side f x) (quiet-side e y) z
+
+  -- what a leave sends that is lent enough room
+  sends-it : (m : Sender) (reply : List ℕ) → 259 ≤ length reply → settingsOf m ≡ senderSet w t → senderEnded (m .core .state) ≡ false
+      → transmit m (w .file) reply .answer .sent ≡ length (leaving (m .core .state) (m .reader .checked))
+  unfolding transmit checkOf
+  sends-it m reply r e n =
+      let size : length (w .file) ≡ m .core .size = sym (ap (λ (s : SenderSettings). s .size) e) in
+      rw (n, le-ltb (length reply) 259 r, eq-eqb (length (w .file)) (m .core .size) size, e)
+
+  complete : (c : Config) → Holds true c → Quiet w c → Complete w c
+  complete c h q =
+      let z : senderEnded (c .snd .core .state) ≡ false → length (leaving (c .snd .core .state) (c .snd .reader .checked)) ≡ 0 =
+      λ n. sym (sends-it (c .snd) (zeros 259) (omega (arith, zeros-length 259)) (h .sender-set) n) ∙ q .no-more-S (zeros 259) in
+      let d = wire-last (h .inv) (q .to-sender) (q .to-receiver) z in
+      let n : c .tally ≡ length (w .file) = omega (arith, h .kept .kept, d .kept) in
+      record { sender = d .sender; receiver = d .receiver; file = (rw n at (h .kept .front)) ∙ take-length (w .file) }
+
+-- ---- THE SESSION
+
+-- SAFETY, over any calls
+pub yapp-safe : (w : World) (t : Settings) (ks : List Call) (l : Left) → Between w l → Fairly w ks (begins w t l)
+    → Between w (leaves (runs w ks (begins w t l)))
+yapp-safe w t ks l b f =
+    let h = any-run w t ks (begins w t l) f (begun w t l b) in
+    record { saved = savedIn (runs w ks (begins w t l) .rcv); stored = h .kept; bytes = refl }
+
+-- COMPLETION, without timers and stops, run to its end
+pub yapp-complete : (w : World) (t : Settings) (ks : List Call) (l : Left) → Between w l → Fairly w ks (begins w t l) → AllCalm ks
+    → Quiet w (runs w ks (begins w t l)) → Complete w (runs w ks (begins w t l))
+yapp-complete w t ks l b f q z = complete w t (runs w ks (begins w t l)) (calm-run w t ks (begins w t l) q f (begun w t l b)) z

@@ -1,0 +1,4 @@
+pub mod World
+pub mod Yapp
+pub mod Bin
+pub mod Demand

@@ -1,0 +1,23 @@
+// YAPP and YappC: the states of sender and receiver, and what they do.
+use calls::Outcome;
+
+pub enum SenderState {
+    // Whether SI was sent, and how many timeouts came since.
+    S { begun: bool, timeouts: u8 },
+    SH,
+    // How many bytes of the file were sent.
+    SD { at: u32 },
+    SE,
+    ST,
+    CW { outcome: Outcome },
+    Ended { outcome: Outcome },
+}
+
+pub enum ReceiverState {
+    R,
+    // Whether a file was received.
+    RH { whole: bool },
+    RD,
+    CW { outcome: Outcome },
+    Ended { outcome: Outcome },
+}
