@@ -15,6 +15,8 @@ use Rattle.lines.specs.Element.{Element, basic, extended, malformedLine, ok, ok
 use Rattle.records.specs.Saved.{Saved}
 use Rattle.calls.specs.declared.Outcome.{Outcome}
 use Rattle.calls.specs.declared.Outcome.the-variants.{Success, Malformed, NoRoom, HaveFile, Differs, CheckFailed, PastSize, Refused, Cancelled, NotOurs}
+pub use Rattle.fields.specs.Buffer.{bytesIn}
+pub use Rattle.calls.specs.Texts.{formatText, roomText, haveText, differsText}
 use Rattle.calls.specs.Saving.{keptOf, sizeOf, grown}
 use Rattle.bin.specs.declared.Announce.{Announce}
 use Rattle.bin.specs.declared.Announce.the-variants.{Basic, Extended}
@@ -24,10 +26,6 @@ use Rattle.bin.specs.declared.ReceiverState.{ReceiverState}
 use Rattle.bin.specs.declared.ReceiverState.the-variants.{Waiting, Basic as TakesBasic, Extended as Takes, Ended as Over}
 
 -- ---- frames
-
-abbrev pub bytesIn : Form → List ℕ
-bytesIn formless = []
-bytesIn (bytes bs) = bs
 
 -- frames one after the other
 abbrev pub joined : List (List ℕ) → List ℕ
@@ -151,19 +149,6 @@ answers st v a l n = record { state = st; saved = v; area = a; out = l; stored =
 
 abbrev pub says : Element → List (List ℕ)
 says e = bytesIn (formOf e) ∷ []
-
--- the texts of a `#NO#`: 7 `format`, 8 `room`, 9 `have`, 10 `differs`
-abbrev pub formatText : List ℕ
-formatText = 102 ∷ 111 ∷ 114 ∷ 109 ∷ 97 ∷ 116 ∷ []
-
-abbrev pub roomText : List ℕ
-roomText = 114 ∷ 111 ∷ 111 ∷ 109 ∷ []
-
-abbrev pub haveText : List ℕ
-haveText = 104 ∷ 97 ∷ 118 ∷ 101 ∷ []
-
-abbrev pub differsText : List ℕ
-differsText = 100 ∷ 105 ∷ 102 ∷ 102 ∷ 101 ∷ 114 ∷ 115 ∷ []
 
 -- `#NO#` and the end; the record stands
 abbrev pub refuses : Option Saved → List ℕ → Outcome → List ℕ → ReceiverMove

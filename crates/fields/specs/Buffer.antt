@@ -1,7 +1,7 @@
 -- Bytes laid into a buffer that the caller lends, and what a writer answers.
 use Prim.Native.Nat.{ℕ, _+_}
 use mathlib.Core.Bool.{Bool}
-use mathlib.Core.List.{List, _++_}
+use mathlib.Core.List.{List, [], _++_}
 use lib.ListN.{length, take, drop}
 use lib.Dec.{leb, ltb}
 use Rattle.fields.specs.Pick.{pick}
@@ -32,6 +32,11 @@ appendedEnd at bs d = pick (leb (at + length bs) (length d)) (at + length bs) at
 pub data Form : Type 0 where
   formless : Form
   bytes : List ℕ → Form
+
+-- the bytes of a form; none where there is none
+abbrev pub bytesIn : Form → List ℕ
+bytesIn formless = []
+bytesIn (bytes bs) = bs
 
 -- bs where a test holds
 abbrev pub formIf : Bool → List ℕ → Form

@@ -10,6 +10,7 @@ use Rattle.fields.specs.Lists.{upTo}
 use Rattle.numbers.specs.Canonical.{plain, capitals}
 use Rattle.fields.specs.declared.Stamp.{Stamp}
 use Rattle.fields.specs.declared.Stamp.the-variants.{Present, Absent}
+pub use Rattle.fields.specs.Stamps.{isPresent}
 use Rattle.packets.specs.declared.HeaderRead.{HeaderRead}
 use Rattle.packets.specs.declared.HeaderRead.the-variants.{Good, Bad}
 use Rattle.packets.specs.Packet.{stampOf, headerRead, resumeRead, isSound, placeOf, dataOf}
@@ -23,10 +24,6 @@ behind s = drop (length (upTo 0 s) + 1) s
 abbrev pub isGood : HeaderRead → Bool
 isGood (Good h) = true
 isGood Bad = false
-
-abbrev pub isPresent : Stamp → Bool
-isPresent (Present v) = true
-isPresent Absent = false
 
 -- an option that we write: nothing, or a stamp in capitals
 unfoldable pub optionInForm : List ℕ → Bool

@@ -12,6 +12,7 @@ use Rattle.fields.specs.Buffer.{Form, formless, bytes, formIf}
 use Rattle.fields.specs.declared.Place.{Place}
 use Rattle.fields.specs.declared.Stamp.{Stamp}
 use Rattle.fields.specs.declared.Stamp.the-variants.{Present, Absent}
+pub use Rattle.fields.specs.Stamps.{stampFits}
 use Rattle.packets.specs.declared.ResumeRead.{ResumeRead}
 use Rattle.packets.specs.declared.ResumeRead.the-variants.{Asked, Nothing}
 use Rattle.packets.specs.declared.Packet.{Packet}
@@ -59,10 +60,6 @@ countedForm lead s = formIf (leb (length s) 255) (lead ∷ length s ∷ s)
 unfoldable pub stampData : Stamp → List ℕ
 stampData (Present v) = hex 8 v ++ (0 ∷ [])
 stampData Absent = []
-
-abbrev pub stampFits : Stamp → Bool
-stampFits (Present v) = leb v 0xFFFFFFFF
-stampFits Absent = true
 
 -- name 00 size 00 option
 unfoldable pub headerData : List ℕ → ℕ → Stamp → List ℕ

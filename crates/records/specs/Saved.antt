@@ -10,6 +10,7 @@ use Rattle.numbers.specs.Writing.{little}
 use Rattle.fields.specs.Buffer.{Form, formIf}
 use Rattle.fields.specs.declared.Stamp.{Stamp}
 use Rattle.fields.specs.declared.Stamp.the-variants.{Present, Absent}
+pub use Rattle.fields.specs.Stamps.{stampFits}
 use Rattle.records.specs.declared.Record.{Record}
 
 -- a record with the name's bytes where the code's `Record` has their place
@@ -44,10 +45,6 @@ recordData s =
 -- length (2 bytes, counting what follows), and what follows
 unfoldable pub recordBytes : Saved → List ℕ
 recordBytes s = little 2 (length (recordData s)) ++ recordData s
-
-abbrev pub stampFits : Stamp → Bool
-stampFits (Present v) = leb v 0xFFFFFFFF
-stampFits Absent = true
 
 -- name and size within the limits, and kept count and stamp of four bytes
 unfoldable pub isSaved : Saved → Bool

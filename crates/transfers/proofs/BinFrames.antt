@@ -23,8 +23,9 @@ use Rattle.lines.specs.Element.{Element, extended, okName, okKept, stop, lineBy
 use Rattle.lines.proofs.RoundTrip.{reads-back}
 use Rattle.lines.proofs.Limits.{lengths}
 use Rattle.records.specs.Saved.{Saved, stampFits}
-use Rattle.bin.specs.Steps.{bytesIn, heard, cut}
+use Rattle.bin.specs.Steps.{bytesIn, heard}
 use Rattle.bin.specs.Steps.{joined}
+use Rattle.transfers.specs.MachinesBin.{cut}
 use Rattle.transfers.specs.World.{World, Bytes}
 use Rattle.transfers.specs.Bin.{joins}
 use Rattle.transfers.proofs.Stored.{Stored, mine, kept-within, fallen, stored-more}

@@ -29,7 +29,8 @@ use Rattle.bin.specs.declared.SenderState.{SenderState}
 use Rattle.bin.specs.declared.SenderState.the-variants.{Start, Wait, Send, Ended}
 use Rattle.bin.specs.declared.ReceiverState.{ReceiverState}
 use Rattle.bin.specs.declared.ReceiverState.the-variants.{Waiting, Basic as TakesBasic, Extended as Takes, Ended as Over}
-use Rattle.bin.specs.Steps.{bytesIn, heard, cut, SenderSettings, SenderMove, goes, sendsFrom, senderLeaves, resumesAt, senderHears, senderTakes, senderFails, ReceiverSettings, ReceiverMove, answers, says, judgeWhole, judgeRecord, judgeExtended, receiverHears, takesFrame, receiverTakes, receiverFails}
+use Rattle.bin.specs.Steps.{bytesIn, heard, SenderSettings, SenderMove, goes, sendsFrom, resumesAt, senderHears, senderTakes, senderFails, ReceiverSettings, ReceiverMove, answers, says, judgeWhole, judgeRecord, judgeExtended, receiverHears, takesFrame, receiverFails}
+use Rattle.transfers.specs.MachinesBin.{cut, senderLeaves, receiverTakes}
 use Rattle.transfers.specs.World.{World}
 use Rattle.transfers.specs.Bin.{Settings}
 use Rattle.transfers.proofs.Stored.{Stored, kept-within}

@@ -27,11 +27,12 @@ use Rattle.bin.specs.declared.SenderState.the-variants.{Start, Send, Ended}
 use Rattle.bin_receiver.specs.declared.Receiver.{Receiver}
 use Rattle.bin.specs.declared.ReceiverState.{ReceiverState}
 use Rattle.bin.specs.declared.ReceiverState.the-variants.{Waiting, Ended as REnded}
-use Rattle.bin.specs.Steps.{SenderMove, senderLeaves, senderTakes, senderFails, senderEnded, ReceiverMove, receiverTakes, receiverFails, receiverEnded}
+use Rattle.bin.specs.Steps.{SenderMove, senderTakes, senderFails, senderEnded, ReceiverMove, receiverFails, receiverEnded}
 use Rattle.bin.specs.Steps.{joined}
 use Rattle.bin_sender.specs.Sender as sender
 use Rattle.bin_receiver.specs.Receiver as receiver
 use Rattle.calls.specs.Saving.{formBy}
+use Rattle.transfers.specs.MachinesBin.{senderLeaves, transmit, receiverTakes, receive}
 use Rattle.transfers.specs.World.{World, Left, Act, transmitS, timeoutS, cancelS, transmitR, timeoutR, cancelR, receiveS, receiveR, Call, lentOr, ours, savedBytes, Calm, AllCalm}
 use Rattle.transfers.specs.Bin.{Settings, Config, receiverBy, begins, front, behindFront, leftBy, stepS, stepR, made, statusIn, stepBy, step, runs, Fair, own, refused, Fairly, Quiet, Complete, leaves}
 use Rattle.transfers.proofs.Stored.{Ours, Stored, Between, ours-form, ours-back, name-back, saved-back, name-room, name-short}
@@ -131,7 +132,7 @@ module _ (w : World) (t : Settings) where
 
     -- ---- the calls
     serve-transmitS : Served o transmitS now
-    unfolding sender.transmit
+    unfolding transmit
     serve-transmitS reply lent f =
         sender-call (λ (file : List ℕ). senderLeaves (sender.settingsOf (senderAt w t s)) file s) (λ (x : Status). ls) reply lent
         (sender.statusOf (senderAt w t s) 0 (lentOr (w .file) lent) reply) f (refl, refl, refl, refl)
@@ -165,7 +166,7 @@ module _ (w : World) (t : Settings) where
         (rw (settings-are w t s) (front-S ls reply (n .inv)))
 
     serve-receiveR : Served o (receiveR k) (now n)
-    unfolding receiver.receive
+    unfolding receive
     serve-receiveR reply lent f =
         receiver-call n (λ (a : List ℕ). receiverTakes (ourRoom w) r (savedBy (keepingOf v) arr) a (front lr)) (receiver.shownIn r (front lr)) (λ (x : Status). leftBy x lr) reply lent
         (receiver.statusOf (receiverAt w r v arr) (length (front lr)) (lentOr area lent) reply) f (refl, refl, refl, refl)
@@ -273,9 +274,9 @@ module _ (w : World) (t : Settings) where
 
   -- ---- run to its end
 
-  nothing-more : (s : SenderState) → senderEnded s ≡ false → ((reply : List ℕ) → sender.transmit (senderAt w t s) (w .file) reply .answer .sent ≡ 0)
+  nothing-more : (s : SenderState) → senderEnded s ≡ false → ((reply : List ℕ) → transmit (senderAt w t s) (w .file) reply .answer .sent ≡ 0)
       → length (joined (senderLeaves (ourSender w t) (w .file) s .out)) ≡ 0
-  unfolding sender.transmit checkOf
+  unfolding transmit checkOf
   nothing-more s e q = rw (e, eq-eqb (length (w .file)) (length (w .file)) refl, settings-are w t s) at (q (replicate 259 0))
 
   busy : {P : Type 0} {p : List ℕ} {l : List (List ℕ)} → (false ≡ true) ⊎ (p ∷ l ≡ []) → P
@@ -289,7 +290,7 @@ module _ (w : World) (t : Settings) where
 
   done : {s : SenderState} {r : ReceiverState} {v : Option Saved} {lr ls : List (List ℕ)} → Good w s r v lr ls
       → (senderEnded s ≡ true) ⊎ (ls ≡ []) → (receiverEnded r ≡ true) ⊎ (lr ≡ [])
-      → ((reply : List ℕ) → sender.transmit (senderAt w t s) (w .file) reply .answer .sent ≡ 0) → Done s r v
+      → ((reply : List ℕ) → transmit (senderAt w t s) (w .file) reply .answer .sent ≡ 0) → Done s r v
   unfolding senderLeaves
   done g0 a b e =
       let z = nothing-more Start refl e in

@@ -20,7 +20,8 @@ use Rattle.yapp.specs.declared.SenderState.{SenderState}
 use Rattle.yapp.specs.declared.SenderState.the-variants.{SH, SD, SE}
 use Rattle.yapp.specs.declared.ReceiverState.{ReceiverState}
 use Rattle.yapp.specs.declared.ReceiverState.the-variants.{RH, RD}
-use Rattle.yapp.specs.Steps.{SenderMove, ReceiverMove, sends, accepts, isPresent, judgeRecord, senderTakes, senderLeaves, receiverTakes}
+use Rattle.yapp.specs.Steps.{SenderMove, ReceiverMove, sends, accepts, isPresent, senderTakes, senderLeaves}
+use Rattle.transfers.specs.MachinesYapp.{judgeRecord, receiverTakes}
 use Rattle.transfers.specs.World.{World}
 use Rattle.transfers.specs.Yapp.{Settings}
 use Rattle.transfers.proofs.Stored.{Stored, mine}

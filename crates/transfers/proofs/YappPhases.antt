@@ -18,7 +18,8 @@ use Rattle.yapp.specs.declared.SenderState.the-variants.{S, SH, SD, SE, ST, CW,
 use Rattle.yapp.specs.declared.ReceiverState.{ReceiverState}
 use Rattle.yapp.specs.declared.ReceiverState.the-variants.{R, RH, RD, CW as RCW, Ended as REnded}
 use Rattle.yapp.specs.Rows.{rowS, rowSH, rowSD, rowSE, rowST, rowCW, senderRow, rowR, rowRH, rowSecond, rowRD, receiverRow}
-use Rattle.yapp.specs.Steps.{SenderSettings, ReceiverSettings, ReceiverNow, senderResumes, senderDoes, senderTakes, sendsBlock, senderLeaves, senderTimes, senderStops, judgeRecord, judges, stores, judgesParts, endsFile, receiverDoes, receiverTakes, receiverTimes, receiverStops}
+use Rattle.yapp.specs.Steps.{SenderSettings, ReceiverSettings, ReceiverNow, senderResumes, senderDoes, senderTakes, sendsBlock, senderLeaves, senderTimes, senderStops, judges, stores, judgesParts, endsFile, receiverDoes, receiverTimes, receiverStops}
+use Rattle.transfers.specs.MachinesYapp.{judgeRecord, receiverTakes}
 use Rattle.transfers.specs.World.{World}
 use Rattle.transfers.specs.Yapp.{Settings}
 use Rattle.transfers.proofs.Stored.{mine}

@@ -21,7 +21,8 @@ use Rattle.yapp.specs.declared.ReceiverState.{ReceiverState}
 use Rattle.yapp.specs.declared.ReceiverState.the-variants.{R, RH, RD, CW as RCW, Ended as REnded}
 use Rattle.yapp.specs.Rows
 use Rattle.yapp.specs.Rows.{Action, nothing, abort, refused, cancelled, success, leaves, answers, sendHeader, start, startChecked, resume, sendTrailer, ready, judge, second, store}
-use Rattle.yapp.specs.Steps.{SenderSettings, SenderMove, ReceiverSettings, ReceiverMove, sends, aborts, goes, fails, senderDoes, senderTakes, senderLeaves, senderTimes, senderStops, receiverDoes, receiverTakes, receiverTimes, receiverStops}
+use Rattle.yapp.specs.Steps.{SenderSettings, SenderMove, ReceiverSettings, ReceiverMove, sends, aborts, goes, fails, senderDoes, senderTakes, senderLeaves, senderTimes, senderStops, receiverDoes, receiverTimes, receiverStops}
+use Rattle.transfers.specs.MachinesYapp.{receiverTakes}
 use Rattle.transfers.specs.World.{World}
 use Rattle.transfers.specs.Yapp.{Settings}
 use Rattle.transfers.proofs.Stored.{Stored, mine, fits-saved, same, fallen, stored-more}

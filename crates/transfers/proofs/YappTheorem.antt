@@ -18,6 +18,7 @@ use Rattle.fields.proofs.Lists.{name-length}
 use Rattle.records.specs.Saved.{Saved, recordBytes}
 use Rattle.packets.specs.Content.{Content}
 use Rattle.reader.specs.declared.Reader.{Reader}
+use Rattle.reader.specs.declared.Received.{Received}
 use Rattle.reader.specs.Reader.{fresh as freshReader, receive as reads}
 use Rattle.reader.proofs.Framing.{Waits}
 use Rattle.calls.specs.declared.Outcome.the-variants.{Success}
@@ -34,7 +35,8 @@ use Rattle.yapp_receiver.specs.declared.Receiver.{Receiver}
 use Rattle.yapp.specs.Steps.{SenderSettings, SenderMove, ReceiverMove, writes, sends, senderLeaves, senderTimes, senderStops, receiverTimes, receiverStops, senderEnded, receiverEnded}
 use Rattle.yapp_sender.specs.Sender.{SenderAfter, heard, nowhere, shownIn, settingsOf, replied, arrived, refusedCall, statusOf, unlessRefused, begin, begunSender, transmit, receive, timeout, cancel}
 use Rattle.calls.specs.Saving.{formBy}
-use Rattle.yapp_receiver.specs.Receiver.{ReceiverAfter, settingsOf as settingsR, nowOf, replied as repliedR, arrived as arrivedR, refusedCall as refusedR, statusOf as statusR, unlessRefused as unlessR, receiverWith, fresh, withSaved, resumeBy, resume, transmit as transmitR′, receive as receiveR′, timeout as timeoutR′, cancel as cancelR′}
+use Rattle.yapp_receiver.specs.Receiver.{ReceiverAfter, settingsOf as settingsR, nowOf, replied as repliedR, refusedCall as refusedR, statusOf as statusR, unlessRefused as unlessR, receiverWith, fresh, withSaved, resumeBy, resume, transmit as transmitR′, timeout as timeoutR′, cancel as cancelR′}
+use Rattle.transfers.specs.MachinesYapp.{receiverTakes, receive as receiveR′}
 use Rattle.transfers.specs.World.{World, Left, Act, transmitS, timeoutS, cancelS, transmitR, timeoutR, cancelR, receiveS, receiveR, Call, lentOr, ours, savedBytes, Calm, AllCalm}
 use Rattle.transfers.specs.Yapp.{Settings, Config, receiverBy, begins, stepS, stepR, made, statusIn, stepBy, step, runs, Fair, own, refused, Fairly, Quiet, Complete, leaves}
 use Rattle.transfers.proofs.Stored.{Ours, Stored, Between, ours-bytes, ours-back, name-back, saved-back, name-room, name-short}
@@ -165,8 +167,12 @@ module _ (w : World) (t : Settings) where
     abbrev stopsR : List ℕ → Option (List ℕ) → ReceiverAfter
     stopsR reply l = repliedR (c .rcv) (c .rcv .reader) 0 (receiverStops (nowOf (c .rcv)) (lentOr (c .area) l) (c .rcv .core .state)) reply
 
+    abbrev arrivesR : Received → List ℕ → Option (List ℕ) → ReceiverAfter
+    arrivesR g reply l =
+        repliedR (c .rcv) (g .reader) (g .taken) (receiverTakes (settingsR (c .rcv)) (nowOf (c .rcv)) (lentOr (c .area) l) (heard g)) reply
+
     abbrev hearsR : ℕ → List ℕ → Option (List ℕ) → ReceiverAfter
-    hearsR n reply l = arrivedR (c .rcv) (reads (c .rcv .reader) (take n (c .toR))) (lentOr (c .area) l) reply
+    hearsR n reply l = arrivesR (reads (c .rcv .reader) (take n (c .toR))) reply l
 
   module _ {o : Bool} (c : Config) (h : Holds o c) where
     leaves-S : (reply : List ℕ) → Holds o (stepS c (leavesS c reply none))

@@ -16,8 +16,9 @@ use Rattle.bin_receiver.specs.declared.Receiver.{Receiver}
 use Rattle.bin.specs.declared.ReceiverState.the-variants.{Ended as REnded}
 use Rattle.bin_receiver.specs.declared.ReceiverAnswer.{ReceiverAnswer}
 use Rattle.bin.specs.Steps.{senderEnded, receiverEnded}
-use Rattle.bin_sender.specs.Sender.{SenderAfter, begin, transmit as transmits, receive as receives, timeout as times, cancel as stops}
-use Rattle.bin_receiver.specs.Receiver.{ReceiverAfter, fresh, resume, recordBy, transmit as transmitsR, receive as receivesR, timeout as timesR, cancel as stopsR}
+use Rattle.bin_sender.specs.Sender.{SenderAfter, begin, receive as receives, timeout as times, cancel as stops}
+use Rattle.bin_receiver.specs.Receiver.{ReceiverAfter, fresh, resume, recordBy, transmit as transmitsR, timeout as timesR, cancel as stopsR}
+use Rattle.transfers.specs.MachinesBin.{transmit as transmits, receive as receivesR}
 use Rattle.transfers.specs.World.{World, Left, Act, transmitS, timeoutS, cancelS, transmitR, timeoutR, cancelR, receiveS, receiveR, Call, lentOr, ours, savedBytes}
 
 -- what may differ from session to session

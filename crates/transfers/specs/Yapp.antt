@@ -23,7 +23,8 @@ use Rattle.yapp.specs.declared.ReceiverState.the-variants.{Ended as REnded}
 use Rattle.yapp_receiver.specs.declared.ReceiverAnswer.{ReceiverAnswer}
 use Rattle.yapp.specs.Steps.{senderEnded, receiverEnded}
 use Rattle.yapp_sender.specs.Sender.{SenderAfter, begin, transmit as transmits, receive as receives, timeout as times, cancel as stops}
-use Rattle.yapp_receiver.specs.Receiver.{ReceiverAfter, fresh, resume, recordBy, transmit as transmitsR, receive as receivesR, timeout as timesR, cancel as stopsR}
+use Rattle.yapp_receiver.specs.Receiver.{ReceiverAfter, fresh, resume, recordBy, transmit as transmitsR, timeout as timesR, cancel as stopsR}
+use Rattle.transfers.specs.MachinesYapp.{receive as receivesR}
 use Rattle.transfers.specs.World.{World, Left, Act, transmitS, timeoutS, cancelS, transmitR, timeoutR, cancelR, receiveS, receiveR, Call, lentOr, ours, savedBytes}
 
 -- what may differ from session to session

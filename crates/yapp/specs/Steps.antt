@@ -15,6 +15,9 @@ use Rattle.packets.specs.Kind.{Parts, HD, partsOf}
 use Rattle.records.specs.Saved.{Saved}
 use Rattle.calls.specs.declared.Outcome.{Outcome}
 use Rattle.calls.specs.declared.Outcome.the-variants.{Success, Unexpected, Malformed, NoRoom, HaveFile, Differs, CheckFailed, PastSize, Short, Refused, Cancelled, NotOurs, TimedOut, SecondFile, Stopped}
+pub use Rattle.fields.specs.Buffer.{bytesIn}
+pub use Rattle.fields.specs.Stamps.{isPresent}
+pub use Rattle.calls.specs.Texts.{roomText, haveText, differsText, oneText}
 use Rattle.calls.specs.Saving.{keptOf, sizeOf, grown}
 use Rattle.yapp.specs.declared.SenderState.{SenderState}
 use Rattle.yapp.specs.declared.SenderState.the-variants.{S, SH, SD, SE, ST, CW, Ended}
@@ -23,10 +26,6 @@ use Rattle.yapp.specs.declared.ReceiverState.the-variants.{R, RH, RD, CW
 use Rattle.yapp.specs.Rows.{Action, nothing, abort, refused, cancelled, success, leaves, answers, sendHeader, start, startChecked, resume, sendTrailer, ready, trailer, judge, second, store, eof, senderRow, receiverRow}
 
 -- ---- what is sent, as bytes
-
-abbrev pub bytesIn : Form → List ℕ
-bytesIn formless = []
-bytesIn (bytes bs) = bs
 
 -- packets one after the other, with checksums or without
 unfoldable pub writes : Bool → List Content → List ℕ
@@ -172,19 +171,6 @@ goes r a st l = record { state = st; checked = r .checked; saved = r .saved; are
 abbrev pub fails : ReceiverNow → List ℕ → Outcome → ReceiverMove
 fails r a o = goes r a (RCW o) (cn [] ∷ [])
 
--- the texts of an NR
-abbrev pub roomText : List ℕ
-roomText = 114 ∷ 111 ∷ 111 ∷ 109 ∷ []
-
-abbrev pub haveText : List ℕ
-haveText = 104 ∷ 97 ∷ 118 ∷ 101 ∷ []
-
-abbrev pub differsText : List ℕ
-differsText = 100 ∷ 105 ∷ 102 ∷ 102 ∷ 101 ∷ 114 ∷ 115 ∷ []
-
-abbrev pub oneText : List ℕ
-oneText = 111 ∷ 110 ∷ 101 ∷ []
-
 -- send NR, end
 abbrev pub refuses : ReceiverNow → List ℕ → Outcome → List ℕ → ReceiverMove
 refuses r a o text = goes r a (REnded o) (nr text ∷ [])
@@ -192,10 +178,6 @@ refuses r a o text = goes r a (REnded o) (nr text ∷ [])
 -- the header is accepted: the record is the header's, with so many bytes kept
 abbrev pub accepts : List ℕ → Bool → Saved → Content → ReceiverMove
 accepts a k v reply = record { state = RD; checked = k; saved = some v; area = a; out = reply ∷ []; stored = 0 }
-
-abbrev pub isPresent : Stamp → Bool
-isPresent (Present v) = true
-isPresent Absent = false
 
 -- with no record the reply is RT if checksums are wanted and the header had a stamp, else RF. If a record matches, the position is kept
 -- bytes less 256, never under 0; the kept count becomes the position, and RE carries it, with `C` if checksums are wanted
