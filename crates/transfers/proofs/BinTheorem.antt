@@ -70,7 +70,7 @@ module _ (w : World) (t : Settings) where
   -- a call that is fairly made leaves what holds
   abbrev Served : Bool → Act → Config → Type 0
   Served b a c =
-      (reply : List ℕ) (lent : Option (List ℕ)) → Fair w lent (statusIn w (made w a c reply lent))
+      (reply : List ℕ) (lent : Option (List ℕ)) → Fair lent (statusIn w (made w a c reply lent))
       → Holds b (stepBy w c lent (made w a c reply lent))
 
   -- a refused call leaves the way as it is
@@ -95,7 +95,7 @@ module _ (w : World) (t : Settings) where
 
     -- a call at the sender, which moves by the file that is lent
     sender-call : (move : List ℕ → SenderMove) (left : Status → List (List ℕ)) (reply : List ℕ) (lent : Option (List ℕ)) (x : Status)
-        → Fair w lent (answerS (move (lentOr (w .file) lent)) reply x .answer .status)
+        → Fair lent (answerS (move (lentOr (w .file) lent)) reply x .answer .status)
         → Stays left ls → Inv w (move (w .file) .state) r v (sentTo lr (move (w .file) .out) reply) (left Taken) o
         → Holds o (stepS now (left (answerS (move (lentOr (w .file) lent)) reply x .answer .status))
         (answerS (move (lentOr (w .file) lent)) reply x))
@@ -112,7 +112,7 @@ module _ (w : World) (t : Settings) where
 
     -- a call at the receiver, which moves by the area that is lent
     receiver-call : (move : List ℕ → ReceiverMove) (shown : Place) (left : Status → List (List ℕ)) (reply : List ℕ) (lent : Option (List ℕ)) (x : Status)
-        → Fair w lent (answerR shown (move (lentOr area lent)) (lentOr area lent) reply x .answer .status)
+        → Fair lent (answerR shown (move (lentOr area lent)) (lentOr area lent) reply x .answer .status)
         → Stays left lr → TakenOn w reply area tally s (move area) (left Taken) ls o
         → Holds o (stepR now (left (answerR shown (move (lentOr area lent)) (lentOr area lent) reply x .answer .status)) lent
         (answerR shown (move (lentOr area lent)) (lentOr area lent) reply x))

@@ -132,13 +132,13 @@ module _ (w : World) (t : Settings) where
 
   -- a call that is lent its own, or refused: a is what it answers if it is taken
   by-serving-S : {o : Bool} (c : Config) (reply : List ℕ) {lent : Option (List ℕ)} (s : Status) {z : Status} (a : Option (List ℕ) → SenderAfter)
-      → Fair w lent z → unlessRefused s (c .snd) reply (a lent) .answer .status ≡ z → a lent .answer .status ≡ Taken → Holds o c
+      → Fair lent z → unlessRefused s (c .snd) reply (a lent) .answer .status ≡ z → a lent .answer .status ≡ Taken → Holds o c
       → Holds o (stepS c (a none)) → Holds o (stepS c (unlessRefused s (c .snd) reply (a lent)))
   by-serving-S c reply s a own e q h g = by-status-S c h s reply (a none) (λ x. g)
   by-serving-S c reply {lent} s a (refused n) e q h g = by-status-S c h s reply (a lent) (λ (x : s ≡ Taken). absurd (n (sym (rw x at e) ∙ q)))
 
   by-serving-R : {o : Bool} (c : Config) (reply : List ℕ) {lent : Option (List ℕ)} (s : Status) {z : Status} (a : Option (List ℕ) → ReceiverAfter)
-      → Fair w lent z → unlessR s (c .rcv) (lentOr (c .area) lent) reply (a lent) .answer .status ≡ z → a lent .answer .status ≡ Taken → Holds o c
+      → Fair lent z → unlessR s (c .rcv) (lentOr (c .area) lent) reply (a lent) .answer .status ≡ z → a lent .answer .status ≡ Taken → Holds o c
       → Holds o (stepR c none (a none)) → Holds o (stepR c lent (unlessR s (c .rcv) (lentOr (c .area) lent) reply (a lent)))
   by-serving-R c reply s a own e q h g = by-status-R c h s none reply (a none) (λ x. g)
   by-serving-R c reply {lent} s a (refused n) e q h g = by-status-R c h s lent reply (a lent) (λ (x : s ≡ Taken). absurd (n (sym (rw x at e) ∙ q)))
@@ -201,7 +201,7 @@ module _ (w : World) (t : Settings) where
     stops-R : (reply : List ℕ) → Holds false (stepR c none (stopsR c reply none))
     stops-R reply = moved-R c h (c .rcv .reader) 0 _ reply (wire-stopsR w t _ _ _ _ _ _ _ (c .area) (c .tally) (h .kept))
 
-    pub calm-step : (act : Act) (reply : List ℕ) (lent : Option (List ℕ)) → Calm act → Fair w lent (statusIn w (made w act c reply lent))
+    pub calm-step : (act : Act) (reply : List ℕ) (lent : Option (List ℕ)) → Calm act → Fair lent (statusIn w (made w act c reply lent))
         → Holds o (stepBy w c lent (made w act c reply lent))
     unfolding transmit receive transmitR′ receiveR′
     calm-step transmitS reply lent q f =
@@ -216,7 +216,7 @@ module _ (w : World) (t : Settings) where
     calm-step timeoutR reply lent q f = absurd q
     calm-step cancelR reply lent q f = absurd q
 
-  pub any-step : (c : Config) → Holds false c → (act : Act) (reply : List ℕ) (lent : Option (List ℕ)) → Fair w lent (statusIn w (made w act c reply lent))
+  pub any-step : (c : Config) → Holds false c → (act : Act) (reply : List ℕ) (lent : Option (List ℕ)) → Fair lent (statusIn w (made w act c reply lent))
       → Holds false (stepBy w c lent (made w act c reply lent))
   unfolding timeout cancel timeoutR′ cancelR′
   any-step c h transmitS reply lent f = calm-step c h transmitS reply lent tt f

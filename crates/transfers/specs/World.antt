@@ -7,13 +7,12 @@ use mathlib.Core.Option.{Option, none, some}
 use lib.ListN.{length, take, drop, getD}
 use Rattle.fields.specs.Name.{isName}
 use Rattle.fields.specs.Buffer.{Form, formless, bytes}
+pub use Rattle.reader.specs.Stream.{Bytes}
 use Rattle.records.specs.declared.RecordRead.{RecordRead}
 use Rattle.records.specs.declared.RecordRead.the-variants.{Good, Unreadable}
 use Rattle.records.specs.Record.{recordOf}
-
--- every element is a byte
-abbrev pub Bytes : List ℕ → Type 0
-Bytes s = (i : ℕ) → getD s i 0 < 256
+use Rattle.calls.specs.declared.Status.{Status}
+use Rattle.calls.specs.declared.Status.the-variants.{Taken}
 
 -- "Take one file under one name, both within document 01's numbers, a receiving area that holds it"; file and area are bytes
 pub record World : Type 0 where
@@ -92,3 +91,8 @@ Calm (receiveR n) = Unit {0}
 abbrev pub AllCalm : List Call → Type 0
 AllCalm [] = Unit {0}
 AllCalm (k ∷ ks) = Calm (k .act) × AllCalm ks
+
+-- "A call gets .. the file or area; refused ones, whatever they are lent, take nothing": a call that is lent another is refused
+pub data Fair : Option (List ℕ) → Status → Type 0 where
+  own : {s : Status} → Fair none s
+  refused : {l : Option (List ℕ)} {s : Status} → (s ≡ Taken → ⊥) → Fair l s
