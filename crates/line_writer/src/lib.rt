@@ -12,6 +12,9 @@ ghost use Rattle.line_writer.specs.Head.{lineHead};
 ghost use Rattle.lines.specs.Frame.{stopFrame};
 ghost use Rattle.lines.specs.Element.{contentOf, resumeMark, basicBytes, lineBytes, okBytes, keptBytes, noBytes, basicForm, lineForm, okNameForm, okKeptForm, noForm, formOf};
 
+// The least reply buffer.
+const LEAST: usize = 259;
+
 // `#BIN#`size`\r`
 fn put_basic(reply: &mut [u8], size: u32) -> usize
     requires { ⌜ (size ≤ 99999999) × (259 ≤ length (now reply)) ⌝ }
@@ -26,7 +29,7 @@ fn put_basic(reply: &mut [u8], size: u32) -> usize
 pub fn write_basic(reply: &mut [u8], size: u32) -> Written
     ensures { λ r. ⌜ (r ≡ writtenOf 259 (basicForm size) (now (reply .entry))) × (now (reply .exit) ≡ leftOf 259 (basicForm size) (now (reply .entry))) ⌝ }
 {
-    if reply.len() < 259 {
+    if reply.len() < LEAST {
         return Written::Small;
     }
     if 99_999_999 < size {
@@ -89,7 +92,7 @@ pub fn write_line(
 ) -> Written
     ensures { λ r. ⌜ (r ≡ writtenOf 259 (lineForm size crc stamp resumable (now (name .entry))) (now (reply .entry))) × (now (reply .exit) ≡ leftOf 259 (lineForm size crc stamp resumable (now (name .entry))) (now (reply .entry))) ⌝ }
 {
-    if reply.len() < 259 {
+    if reply.len() < LEAST {
         return Written::Small;
     }
     if 99_999_999 < size {
@@ -116,7 +119,7 @@ fn put_ok(reply: &mut [u8], name: &[u8]) -> usize
 pub fn write_ok(reply: &mut [u8]) -> Written
     ensures { λ r. ⌜ (r ≡ writtenOf 259 (bytesForm (okBytes [])) (now (reply .entry))) × (now (reply .exit) ≡ leftOf 259 (bytesForm (okBytes [])) (now (reply .entry))) ⌝ }
 {
-    if reply.len() < 259 {
+    if reply.len() < LEAST {
         return Written::Small;
     }
     let n = fields::append_bytes(reply, 0, b"#OK#\r");
@@ -127,7 +130,7 @@ pub fn write_ok(reply: &mut [u8]) -> Written
 pub fn write_ok_name(reply: &mut [u8], name: &[u8]) -> Written
     ensures { λ r. ⌜ (r ≡ writtenOf 259 (okNameForm (now (name .entry))) (now (reply .entry))) × (now (reply .exit) ≡ leftOf 259 (okNameForm (now (name .entry))) (now (reply .entry))) ⌝ }
 {
-    if reply.len() < 259 {
+    if reply.len() < LEAST {
         return Written::Small;
     }
     if fields::is_name(name) {
@@ -155,7 +158,7 @@ fn put_kept(reply: &mut [u8], name: &[u8], kept: u32, crc: u16) -> usize
 pub fn write_ok_kept(reply: &mut [u8], name: &[u8], kept: u32, crc: u16) -> Written
     ensures { λ r. ⌜ (r ≡ writtenOf 259 (okKeptForm (now (name .entry)) kept crc) (now (reply .entry))) × (now (reply .exit) ≡ leftOf 259 (okKeptForm (now (name .entry)) kept crc) (now (reply .entry))) ⌝ }
 {
-    if reply.len() < 259 {
+    if reply.len() < LEAST {
         return Written::Small;
     }
     if 99_999_999 < kept {
@@ -182,7 +185,7 @@ fn put_no(reply: &mut [u8], text: &[u8]) -> usize
 pub fn write_no(reply: &mut [u8], text: &[u8]) -> Written
     ensures { λ r. ⌜ (r ≡ writtenOf 259 (noForm (now (text .entry))) (now (reply .entry))) × (now (reply .exit) ≡ leftOf 259 (noForm (now (text .entry))) (now (reply .entry))) ⌝ }
 {
-    if reply.len() < 259 {
+    if reply.len() < LEAST {
         return Written::Small;
     }
     if 80 < text.len() {
@@ -196,7 +199,7 @@ pub fn write_no(reply: &mut [u8], text: &[u8]) -> Written
 pub fn write_stop(reply: &mut [u8]) -> Written
     ensures { λ r. ⌜ (r ≡ writtenOf 259 (bytesForm stopFrame) (now (reply .entry))) × (now (reply .exit) ≡ leftOf 259 (bytesForm stopFrame) (now (reply .entry))) ⌝ }
 {
-    if reply.len() < 259 {
+    if reply.len() < LEAST {
         return Written::Small;
     }
     let n = fields::append_bytes(reply, 0, b"\r#ABORT#\r");
@@ -207,7 +210,7 @@ pub fn write_stop(reply: &mut [u8]) -> Written
 fn write_none(reply: &mut [u8]) -> Written
     ensures { λ r. ⌜ (r ≡ writtenOf 259 formless (now (reply .entry))) × (now (reply .exit) ≡ leftOf 259 formless (now (reply .entry))) ⌝ }
 {
-    if reply.len() < 259 {
+    if reply.len() < LEAST {
         return Written::Small;
     }
     Written::Formless
