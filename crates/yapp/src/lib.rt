@@ -1,6 +1,8 @@
 // YAPP and YappC: the states of sender and receiver, and what they do.
 use calls::Outcome;
 
+pub mod table;
+
 pub enum SenderState {
     // Whether SI was sent, and how many timeouts came since.
     S { begun: bool, timeouts: u8 },
