@@ -52,12 +52,16 @@ pub record SenderAfter : Type 0 where
   pub answer : SenderAnswer
   pub reply : List ℕ
 
+-- a block is 1 to 256 bytes; no beginning gives a longer one, and it would count as 256
+abbrev pub blockOf : ℕ → ℕ
+blockOf block = pick (leb block 256) block 256
+
 abbrev pub settingsOf : Sender → SenderSettings
 settingsOf m = record {
   announce = m .core .announce;
   name = take (m .core .named) (m .name);
   size = m .core .size;
-  block = m .core .block;
+  block = blockOf (m .core .block);
 }
 
 -- a refused call changes nothing anywhere

@@ -14,3 +14,11 @@ checkOf ended reply frame lent given =
     (pick (ltb reply 259) SmallReply
     (pick (ltb 256 frame) LongFrame
     (pick (eqb lent given) Taken WrongLength)))
+
+-- whether the call is taken
+abbrev pub isTaken : Status → Bool
+isTaken Taken = true
+isTaken Over = false
+isTaken LongFrame = false
+isTaken SmallReply = false
+isTaken WrongLength = false

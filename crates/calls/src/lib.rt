@@ -1,5 +1,12 @@
 // What the calls of every sender and receiver have in common.
 use fields::Stamp;
+ghost use mathlib.Core.Path.{_≡_};
+ghost use Rattle.calls.specs.Checks.{checkOf, isTaken};
+
+// The least reply buffer, and the longest frame.
+pub const LEAST_REPLY: usize = 259;
+
+pub const LONGEST_FRAME: usize = 256;
 
 // How an end ended. The first number stays through CW. A beginning that is refused (1 to 5) gives an end that has ended.
 pub enum Outcome {
@@ -68,4 +75,37 @@ pub struct Entry {
 pub enum Keeping {
     Nothing,
     Of(Entry),
+}
+
+// Calls are checked 18, 20, 19, 40: whether the end has ended, how long the reply buffer and the frame are, and how long the lent file or
+// area is and was said to be at the start.
+pub fn check(ended: bool, reply: usize, frame: usize, lent: usize, given: usize) -> Status
+    ensures { λ r. ⌜ r ≡ checkOf ended reply frame lent given ⌝ }
+{
+    if ended {
+        return Status::Over;
+    }
+    if reply < LEAST_REPLY {
+        return Status::SmallReply;
+    }
+    if LONGEST_FRAME < frame {
+        return Status::LongFrame;
+    }
+    if lent == given {
+        return Status::Taken;
+    }
+    Status::WrongLength
+}
+
+// Whether the call is taken.
+pub fn is_taken(status: Status) -> bool
+    ensures { λ r. ⌜ r ≡ isTaken status ⌝ }
+{
+    match status {
+        Status::Taken => true,
+        Status::Over => false,
+        Status::LongFrame => false,
+        Status::SmallReply => false,
+        Status::WrongLength => false,
+    }
 }

@@ -46,7 +46,7 @@ module _ (w : World) (t : Settings) where
   senderAt st = sender.senderWith st (Extended (t .stamp) true) (w .name) (length (w .file)) (t .block)
 
   settings-are : (st : SenderState) → sender.settingsOf (senderAt st) ≡ ourSender w t
-  settings-are st = rw (name-back (w .name) (replicate 64 0) refl (name-length (w .name) (w .named) .1))
+  settings-are st = rw (name-back (w .name) (replicate 64 0) refl (name-length (w .name) (w .named) .1), le-leb (t .block) 256 (t .block-most))
 
 abbrev pub receiverAt : World → ReceiverState → Option Saved → List ℕ → Receiver
 receiverAt w st v arr = record { name = arr; core = record { state = st; room = length (w .area); resumes = true; keeping = keepingOf v } }

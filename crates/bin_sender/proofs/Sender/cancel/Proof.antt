@@ -1,0 +1,18 @@
+-- The operator's stop: 23. Assumes nothing.
+use Rattle.bin_sender.specs.Sender.{cancel}
+use borrow.Author.Needs.{needs}
+use Rattle.bin_sender.proofs.Sender.cancel.Statement.{statement}
+use Rattle.bin_sender.proofs.Sender.cancel.Tie as tie
+
+failed-requires : tie.Need-failed-requires
+failed-requires c κs = search needs
+
+same-length : tie.Need-same-length
+same-length c = search needs
+
+returns : tie.Need-returns
+unfolding cancel
+returns c = c .before .before .failed .ensures
+
+pub cancel-spec : {M : Type 1} → statement M
+cancel-spec = tie.close (tie.spec failed-requires same-length returns)

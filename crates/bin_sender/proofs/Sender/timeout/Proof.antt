@@ -1,0 +1,18 @@
+-- The timer ran out: 17. Assumes nothing.
+use Rattle.bin_sender.specs.Sender.{timeout}
+use borrow.Author.Needs.{needs}
+use Rattle.bin_sender.proofs.Sender.timeout.Statement.{statement}
+use Rattle.bin_sender.proofs.Sender.timeout.Tie as tie
+
+failed-requires : tie.Need-failed-requires
+failed-requires c κs = search needs
+
+same-length : tie.Need-same-length
+same-length c = search needs
+
+returns : tie.Need-returns
+unfolding timeout
+returns c = c .before .before .failed .ensures
+
+pub timeout-spec : {M : Type 1} → statement M
+timeout-spec = tie.close (tie.spec failed-requires same-length returns)

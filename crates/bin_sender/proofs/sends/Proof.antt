@@ -1,0 +1,37 @@
+-- A frame while the file is sent: the stop frame ends it. Assumes nothing.
+use mathlib.Core.Path.{_≡_, sym, _∙_}
+use mathlib.Core.Bool.{true, false}
+use denote.Ref.{now}
+use Rattle.fields.specs.Lists.{same}
+use Rattle.lines.specs.Frame.{stopFrame}
+use Rattle.bin.specs.Steps.{senderSends}
+use borrow.Author.Needs.{needs}
+use Rattle.bin_sender.proofs.sends.Statement.{statement}
+use Rattle.bin_sender.proofs.sends.Tie as tie
+
+is-stop-requires : tie.Need-is-stop-requires
+is-stop-requires c κs = search needs
+
+stays-requires : tie.Need-stays-requires
+stays-requires c κs = search needs
+
+returns : tie.Need-returns
+unfolding senderSends
+returns c =
+    let a = c .before .before .before .before .args in
+    let e : same stopFrame (now (a .frame)) ≡ true = sym (c .before .before .is-stop .ensures) ∙ c .before .if1 .taken in
+    λ m file. rw (c .stays .ensures, e)
+
+stays-requires-2 : tie.Need-stays-requires-2
+stays-requires-2 c κs = search needs
+
+returns-2 : tie.Need-returns-2
+unfolding senderSends
+returns-2 c =
+    let a = c .before .before .before .before .args in
+    let e : same stopFrame (now (a .frame)) ≡ false = sym (c .before .before .is-stop .ensures) ∙ c .before .if1 .left in
+    λ m file. rw (c .stays2 .ensures, e)
+
+pub sends-spec : {M : Type 1} → statement M
+sends-spec =
+    tie.close (tie.spec is-stop-requires stays-requires returns stays-requires-2 returns-2)
