@@ -1,1 +1,3 @@
 pub mod Receiver
+pub mod Recording
+pub mod Deciding

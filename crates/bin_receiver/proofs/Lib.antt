@@ -1,0 +1,5 @@
+-- Laws of the definitions of specs/, which this crate's proofs cite.
+pub mod Cases
+pub mod Names
+pub mod Steps
+pub mod Calls

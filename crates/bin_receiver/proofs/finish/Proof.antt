@@ -1,0 +1,25 @@
+-- `finish` keeps the name, writes the reply and answers. Assumes nothing.
+use mathlib.Core.Path.{refl}
+use borrow.Author.Needs.{needs}
+use Rattle.bin_receiver.proofs.finish.Statement.{statement}
+use Rattle.bin_receiver.proofs.finish.Tie as tie
+
+bytes-at-requires : tie.Need-bytes-at-requires
+bytes-at-requires c κs = search needs
+
+keep-name-requires : tie.Need-keep-name-requires
+keep-name-requires c κs = search needs
+
+put-requires : tie.Need-put-requires
+put-requires c κs = search needs
+
+same-length : tie.Need-same-length
+same-length c = search needs
+
+returns : tie.Need-returns
+returns c =
+    rw (c .before .before .before .before .keep-name .ensures, c .before .before .put .ensures .0, c .before .before .put .ensures .1, c .before .before .before .before .before .before .bytes-at .ensures) (refl, refl)
+
+pub finish-spec : {M : Type 1} → statement M
+finish-spec =
+    tie.close (tie.spec bytes-at-requires keep-name-requires put-requires same-length returns)
