@@ -1,11 +1,17 @@
--- What a call that is taken may rely on. Assumes nothing.
-use mathlib.Core.Path.{_≡_, refl}
+-- What a call that is taken may rely on, and what a writer has then laid into the reply buffer. Assumes nothing.
+use mathlib.Core.Path.{_≡_, refl, sym, _∙_}
 use mathlib.Core.Bool.{Bool, true, false}
+use mathlib.Core.List.{List}
 use Prim.Native.Nat.{ℕ, _≤_}
 use native.Mathlib.Omega.{arith}
+use lib.ListN.{length}
 use lib.Dec.{ltb, eqb}
-use borrow.Author.Tests.{ltb-false, eqb-true}
+use borrow.Author.Tests.{ltb-false, eqb-true, le-ltb}
+use Rattle.fields.specs.declared.Written.{Written}
+use Rattle.fields.specs.Buffer.{Form, formless, bytes, bytesIn, over, writtenOf, leftOf}
+use Rattle.fields.proofs.Buffer.{over-none}
 use Rattle.calls.specs.Checks.{checkOf, isTaken}
+use Rattle.calls.specs.Count.{countOf}
 
 -- a call that is taken has room for a reply, a frame of at most 256 bytes, and the right file or area
 pub taken-room : (ended : Bool) (reply frame lent given : ℕ) → isTaken (checkOf ended reply frame lent given) ≡ true
@@ -20,3 +26,10 @@ taken-room ended reply frame lent given h = go ended refl (ltb reply 259) refl (
     go false p false q true s l t = let z : false ≡ true = rw (p, q, s) at h in let o : _≡_ {A = ℕ} 0 1 = cc in absurd (omega arith)
     go false p false q false s false t = let z : false ≡ true = rw (p, q, s, t) at h in let o : _≡_ {A = ℕ} 0 1 = cc in absurd (omega arith)
     go false p false q false s true t = (ltb-false reply 259 q, ltb-false 256 frame s, eqb-true lent given t)
+
+-- a writer lent a reply buffer that is long enough has laid down what its form has; what has no form is nothing
+pub wrote : (f : Form) (d e : List ℕ) (w : Written) → 259 ≤ length d → (w ≡ writtenOf 259 f d) × (e ≡ leftOf 259 f d)
+    → (countOf w ≡ length (bytesIn f)) × (e ≡ over 0 (bytesIn f) d)
+unfolding writtenOf leftOf
+wrote formless d e w h p = let z = le-ltb (length d) 259 h in (rw (p .0, z), p .1 ∙ rw z (sym (over-none d)))
+wrote (bytes bs) d e w h p = let z = le-ltb (length d) 259 h in (rw (p .0, z), rw (p .1, z))

@@ -1,8 +1,11 @@
 -- The record that a receiver holds, as its struct has it and as the record with its name.
 use Prim.Native.Nat.{ℕ, _+_}
+use mathlib.Core.Bool.{Bool, _&&_}
 use mathlib.Core.List.{List, []}
 use mathlib.Core.Option.{Option, none, some}
 use lib.ListN.{length, take}
+use lib.Dec.{leb, eqb}
+use Rattle.fields.specs.Lists.{same}
 use Rattle.fields.specs.declared.Stamp.{Stamp}
 use Rattle.fields.specs.Buffer.{Form}
 use Rattle.records.specs.Saved.{Saved, recordForm}
@@ -18,6 +21,10 @@ savedBy (Of e) name = some (record { size = e .size; kept = e .kept; stamp = e .
 abbrev pub keepingOf : Option Saved → Keeping
 keepingOf none = Nothing
 keepingOf (some v) = Of (record { named = length (v .name); size = v .size; kept = v .kept; stamp = v .stamp })
+
+-- the same record, its name no longer than the array
+abbrev pub heldOf : Keeping → List ℕ → Keeping
+heldOf k name = keepingOf (savedBy k name)
 
 abbrev pub nameOf : Option Saved → List ℕ
 nameOf none = []
@@ -36,6 +43,14 @@ sizeOf (some v) = v .size
 abbrev pub grown : Option Saved → ℕ → Option Saved
 grown none n = none
 grown (some v) n = some (record { size = v .size; kept = v .kept + n; stamp = v .stamp; name = v .name })
+
+-- kept bytes within the size, and the size within the area
+abbrev pub isWithin : ℕ → ℕ → ℕ → Bool
+isWithin kept size room = leb kept size && leb size room
+
+-- a record matches a header or line of the same name and announced size
+abbrev pub matchesOf : Entry → List ℕ → List ℕ → ℕ → Bool
+matchesOf e held name size = same (take (e .named) held) name && eqb (e .size) size
 
 -- the form of a record, none where there is none
 abbrev pub formBy : Option Saved → Option Form
