@@ -1,5 +1,3 @@
 -- Laws of the definitions of specs/, which this crate's proofs cite.
-pub mod Cases
-pub mod Names
 pub mod Steps
 pub mod Calls

@@ -28,13 +28,14 @@ use Rattle.bin.specs.declared.ReceiverState.{ReceiverState}
 use Rattle.bin.specs.declared.ReceiverState.the-variants.{Waiting, Basic, Extended, Ended}
 use Rattle.bin.specs.Steps.{ReceiverMove, ReceiverSettings, answers, heard, judgeWhole, judgeRecord, judgeExtended, basicAt, basicOver, judgeBasic, receiverHears, sorted, takesFrame, takesBasicFrame, receiverTakes, receiverFails}
 use Rattle.bin_receiver.specs.declared.Receiver.{Receiver}
-use Rattle.bin_receiver.specs.declared.step.Step.{Step}
-use Rattle.bin_receiver.specs.declared.step.Out.{Out}
-use Rattle.bin_receiver.specs.declared.step.Out.the-variants.{Silent, Format, Room, Have, Differs, FirstOk, SecondOk, ThirdOk, Stop}
-use Rattle.bin_receiver.specs.Receiver.{ReceiverAfter, replied, nowhere}
-use Rattle.bin_receiver.specs.Deciding.{framesOf, stepTo, goesTo, Done, doneAs, wholeStep, resumeStep, recordStep, extendedStep, basicStep, basicRecord, basicLine, waitStep, entryFrame, extendedFrame, basicFrame, sortedStep, busyStep, frameStep, failStep, answerBy, replyBy}
-use Rattle.bin_receiver.proofs.Cases.{no}
-use Rattle.bin_receiver.proofs.Names.{keep-own, keep-none}
+use Rattle.bin_receiving.specs.declared.Step.{Step}
+use Rattle.bin_receiving.specs.declared.Out.{Out}
+use Rattle.bin_receiving.specs.declared.Out.the-variants.{Silent, Format, Room, Have, Differs, FirstOk, SecondOk, ThirdOk, Stop}
+use Rattle.bin_receiver.specs.Receiver.{ReceiverAfter, replied}
+use Rattle.bin_receiving.specs.Deciding.{framesOf, stepTo, goesTo, Done, doneAs, wholeStep, resumeStep, recordStep, extendedStep, basicStep, basicRecord, basicLine, waitStep, entryFrame, extendedFrame, basicFrame, sortedStep, busyStep, frameStep, failStep, nowhere}
+use Rattle.bin_receiver.specs.Acts.{answerBy, replyBy}
+use Rattle.bin_receiving.proofs.Cases.{no}
+use Rattle.calls.proofs.Names.{keep-own, keep-none}
 
 -- alike in both cases
 pub pick-both : {A B C : Type 0} (F : A → C) (G : B → C) (b : Bool) {x y : A} {x′ y′ : B} → F x ≡ G x′ → F y ≡ G y′ → F (pick b x y) ≡ G (pick b x′ y′)

@@ -1,3 +1,2 @@
 pub mod Receiver
-pub mod Recording
-pub mod Deciding
+pub mod Acts

@@ -1,29 +1,24 @@
 // The #BIN# receiver.
 use bin::ReceiverState;
+use bin_receiving::Step;
 use calls::Entry;
 use calls::Keeping;
 use calls::Outcome;
+use calls::RecordAnswer;
 use calls::Status;
 use fields::Place;
-use fields::Written;
 use records::Record;
 use records::RecordRead;
-use step::Step;
 ghost use mathlib.Core.Path.{_≡_};
-ghost use mathlib.Core.Bool.{_&&_};
-ghost use lib.ListN.{length, take};
-ghost use lib.Dec.{leb};
+ghost use lib.ListN.{length};
 ghost use Prim.Native.Nat.{_≤_};
-ghost use Rattle.fields.specs.Buffer.{appended, writtenOf, leftOf};
-ghost use Rattle.records.specs.Saved.{savedOf, recordForm, saved};
+ghost use Rattle.fields.specs.Buffer.{appended};
+ghost use Rattle.records.specs.Saved.{savedOf};
 ghost use Rattle.calls.specs.Checks.{checkOf};
 ghost use Rattle.bin.specs.Steps.{receiverEnded};
-ghost use Rattle.bin_receiver.specs.Deciding.{begunAs, answerBy, replyBy, failsOf};
+ghost use Rattle.bin_receiver.specs.Acts.{begunAs, answerBy, replyBy, failsOf};
 ghost use Rattle.bin_receiver.specs.Receiver.{fresh as freshOf, resume as resumeOf, withSaved, isTaking, shownIn, transmit as transmitOf, receive as receiveOf, timeout as timeoutOf, cancel as cancelOf, recordBy};
-ghost use Rattle.bin_receiver.specs.Recording.{recordAnswer, recordLeft};
-
-mod out;
-mod step;
+ghost use Rattle.calls.specs.Recording.{recordAnswer, recordLeft};
 
 pub struct ReceiverCore {
     state: ReceiverState,
@@ -48,12 +43,6 @@ pub struct ReceiverAnswer {
     pub stored: usize,
     // Where text to show stands in the frame.
     pub shown: Place,
-}
-
-// What the writing of the record answers.
-pub enum RecordAnswer {
-    NoRecord,
-    Record(Written),
 }
 
 fn keep_name(own: &mut [u8; 64], name: &[u8])
@@ -85,16 +74,6 @@ fn begin(
     }
 }
 
-// Whether the kept bytes are within the size, and the size within the area.
-fn is_within(kept: u32, size: u32, room: usize) -> bool
-    ensures { λ r. ⌜ r ≡ (leb kept size && leb size room) ⌝ }
-{
-    if kept <= size {
-        return size as usize <= room;
-    }
-    false
-}
-
 // From a record; kept over size, or size over area, is 2.
 fn begin_saved(r: Record, bytes: &[u8], room: usize, resumes: bool) -> Receiver
     ensures { λ m. ⌜ m ≡ withSaved room resumes (savedOf (now (bytes .entry)) r) ⌝ }
@@ -102,7 +81,7 @@ fn begin_saved(r: Record, bytes: &[u8], room: usize, resumes: bool) -> Receiver
     let place = r.name;
     let stamp = r.stamp;
     let name = fields::bytes_at(bytes, place);
-    if is_within(r.kept, r.size, room) {
+    if calls::is_within(r.kept, r.size, room) {
         let keeping = Keeping::Of(Entry {
             named: name.len(),
             size: r.size,
@@ -187,9 +166,9 @@ fn finish(m: Receiver, step: Step, frame: &[u8], shown: Place, reply: &mut [u8])
     let keeping = step.keeping;
     let out = step.out;
     let place = step.name;
-    let name = fields::bytes_at(frame, place);
-    keep_name(&mut own, name);
-    let sent = out::put(reply, out, name);
+    let next = fields::bytes_at(frame, place);
+    keep_name(&mut own, next);
+    let sent = bin_receiving::put(reply, out, next);
     ReceiverAnswer {
         receiver: Receiver {
             name: own,
@@ -217,27 +196,12 @@ fn fail(m: Receiver, outcome: Outcome, area: &[u8], reply: &mut [u8]) -> Receive
     let name = m.name;
     let status = check_call(core, 0, area.len(), reply.len());
     if calls::is_taken(status) {
-        let held = step::held(keeping, &name);
-        let step = step::fail(outcome, state, held);
+        let held = calls::held(keeping, &name);
+        let step = bin_receiving::fail(outcome, state, held);
         let shown = Place { start: 0, len: 0 };
         return finish(m, step, b"", shown, reply);
     }
     refused(m, status)
-}
-
-// Writes the record of a name and an entry.
-fn write_entry(buf: &mut [u8], name: &[u8], entry: Entry) -> Written
-    ensures { λ r. ⌜ (r ≡ writtenOf 81 (recordForm (saved (take (entry .named) (now (name .entry))) (entry .size) (entry .kept) (entry .stamp))) (now (buf .entry))) × (now (buf .exit) ≡ leftOf 81 (recordForm (saved (take (entry .named) (now (name .entry))) (entry .size) (entry .kept) (entry .stamp))) (now (buf .entry))) ⌝ }
-{
-    let stamp = entry.stamp;
-    let named = entry.named;
-    records::write(
-        buf,
-        fields::part(name, 0, named),
-        entry.size,
-        entry.kept,
-        stamp,
-    )
 }
 
 impl Receiver {
@@ -246,7 +210,7 @@ impl Receiver {
     // A frame has at most this many bytes.
     pub const LONGEST_FRAME: usize = calls::LONGEST_FRAME;
     // The buffer that a record is written into has at least this many bytes.
-    pub const LEAST_RECORD: usize = 81;
+    pub const LEAST_RECORD: usize = calls::LEAST_RECORD;
 
     // A receiver with no record.
     pub fn fresh(room: usize, resumes: bool) -> Self
@@ -287,8 +251,16 @@ impl Receiver {
         let name = self.name;
         let status = check_call(core, frame.len(), area.len(), reply.len());
         if calls::is_taken(status) {
-            let held = step::held(keeping, &name);
-            let step = step::take(core.room, core.resumes, state, held, frame, &name, area);
+            let held = calls::held(keeping, &name);
+            let step = bin_receiving::take(
+                core.room,
+                core.resumes,
+                state,
+                held,
+                frame,
+                &name,
+                area,
+            );
             let shown = shown_in(state, frame);
             return finish(self, step, frame, shown, reply);
         }
@@ -316,13 +288,7 @@ impl Receiver {
         let core = self.core;
         let keeping = core.keeping;
         let name = self.name;
-        match keeping {
-            Keeping::Nothing => RecordAnswer::NoRecord,
-            Keeping::Of(e) => {
-                let written = write_entry(buf, &name, e);
-                RecordAnswer::Record(written)
-            }
-        }
+        calls::write_record(keeping, &name, buf)
     }
 
     pub fn state(self) -> ReceiverState

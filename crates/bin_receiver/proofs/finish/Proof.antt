@@ -1,6 +1,7 @@
 -- `finish` keeps the name, writes the reply and answers. Assumes nothing.
 use mathlib.Core.Path.{refl}
 use borrow.Author.Needs.{needs}
+use Rattle.bin_receiver.proofs.Calls.{said}
 use Rattle.bin_receiver.proofs.finish.Statement.{statement}
 use Rattle.bin_receiver.proofs.finish.Tie as tie
 
@@ -18,7 +19,8 @@ same-length c = search needs
 
 returns : tie.Need-returns
 returns c =
-    rw (c .before .before .before .before .keep-name .ensures, c .before .before .put .ensures .0, c .before .before .put .ensures .1, c .before .before .before .before .before .before .bytes-at .ensures) (refl, refl)
+    let z = said _ _ _ _ _ (c .before .before .before .before .before .before .before .before .before .before .before .before .pre) (c .before .before .put .ensures) in
+    rw (c .before .before .before .before .keep-name .ensures, z .0, z .1, c .before .before .before .before .before .before .bytes-at .ensures) (refl, refl)
 
 pub finish-spec : {M : Type 1} → statement M
 finish-spec =

@@ -1,5 +1,5 @@
 -- `cancel` is the failing with 23. Assumes nothing.
-use Rattle.bin_receiver.specs.Deciding.{failsOf}
+use Rattle.bin_receiver.specs.Acts.{failsOf}
 use Rattle.bin_receiver.specs.Receiver.{cancel}
 use borrow.Author.Needs.{needs}
 use Rattle.bin_receiver.proofs.Receiver.cancel.Statement.{statement}

@@ -23,8 +23,7 @@ slice-aggregate-take : tie.Need-slice-aggregate-take
 slice-aggregate-take c = search needs
 
 take-requires : tie.Need-take-requires
-take-requires c κs =
-    taken-room _ _ _ _ _ (taken-by (c .before .before .before .before .before .before .check-call .ensures) (c .before .before .before .before .before .is-taken .ensures) (c .before .before .before .before .if1 .taken)) .1
+take-requires c κs = search needs
 
 shown-in-requires : tie.Need-shown-in-requires
 shown-in-requires c κs = search needs

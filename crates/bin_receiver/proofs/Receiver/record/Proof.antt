@@ -1,38 +1,19 @@
--- `record` writes where there is a record. Assumes nothing.
-use mathlib.Core.Path.{refl}
+-- `record` writes the record that it holds. Assumes nothing.
 use borrow.Author.Needs.{needs}
 use Rattle.bin_receiver.proofs.Receiver.record.Statement.{statement}
 use Rattle.bin_receiver.proofs.Receiver.record.Tie as tie
 
-enum-told : tie.Need-enum-told
-enum-told c = search needs
+slice-aggregate-write-record : tie.Need-slice-aggregate-write-record
+slice-aggregate-write-record c = search needs
 
-enum-known-keeping : tie.Need-enum-known-keeping
-enum-known-keeping c = search needs
-
-slice-aggregate-write-entry : tie.Need-slice-aggregate-write-entry
-slice-aggregate-write-entry c = search needs
-
-write-entry-requires : tie.Need-write-entry-requires
-write-entry-requires c κs = search needs
-
-returns : tie.Need-returns
-returns c = search needs
+write-record-requires : tie.Need-write-record-requires
+write-record-requires c κs = search needs
 
 same-length : tie.Need-same-length
 same-length c = search needs
 
-returns-2 : tie.Need-returns-2
-returns-2 c = rw (c .before .before .before .before .before .before .keeping .given .1, c .before .before .write-entry .ensures .0, c .before .before .write-entry .ensures .1) (refl, refl)
+returns : tie.Need-returns
+returns c = c .before .before .write-record .ensures
 
 pub record-spec : {M : Type 1} → statement M
-record-spec =
-    tie.close
-    (tie.spec
-    enum-told
-    enum-known-keeping
-    slice-aggregate-write-entry
-    write-entry-requires
-    returns
-    same-length
-    returns-2)
+record-spec = tie.close (tie.spec slice-aggregate-write-record write-record-requires same-length returns)

@@ -1,5 +1,5 @@
 -- `timeout` is the failing with 17. Assumes nothing.
-use Rattle.bin_receiver.specs.Deciding.{failsOf}
+use Rattle.bin_receiver.specs.Acts.{failsOf}
 use Rattle.bin_receiver.specs.Receiver.{timeout}
 use borrow.Author.Needs.{needs}
 use Rattle.bin_receiver.proofs.Receiver.timeout.Statement.{statement}
