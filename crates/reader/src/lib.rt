@@ -107,6 +107,13 @@ impl Reader {
         self.pending
     }
 
+    // Whether every DT has a checksum.
+    pub fn checked(self) -> bool
+        ensures { λ r. ⌜ r ≡ self .checked ⌝ }
+    {
+        self.checked
+    }
+
     // How many bytes of an unfinished packet wait.
     pub fn filled(self) -> usize
         ensures { λ r. ⌜ r ≡ self .filled ⌝ }
