@@ -1,0 +1,20 @@
+-- `finish` writes the reply and answers. Assumes nothing.
+use mathlib.Core.Path.{refl}
+use borrow.Author.Needs.{needs}
+use Rattle.yapp_receiver.proofs.finish.Statement.{statement}
+use Rattle.yapp_receiver.proofs.finish.Tie as tie
+
+put-requires : tie.Need-put-requires
+put-requires c κs = search needs
+
+moved-requires : tie.Need-moved-requires
+moved-requires c κs = search needs
+
+same-length : tie.Need-same-length
+same-length c = search needs
+
+returns : tie.Need-returns
+returns c = rw (c .moved .ensures, c .before .before .before .put .ensures .0, c .before .before .before .put .ensures .1) (refl, refl)
+
+pub finish-spec : {M : Type 1} → statement M
+finish-spec = tie.close (tie.spec put-requires moved-requires same-length returns)
