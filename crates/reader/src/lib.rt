@@ -107,18 +107,18 @@ impl Reader {
         self.pending
     }
 
-    // Whether every DT has a checksum.
-    pub fn checked(self) -> bool
-        ensures { λ r. ⌜ r ≡ self .checked ⌝ }
-    {
-        self.checked
-    }
-
     // How many bytes of an unfinished packet wait.
     pub fn filled(self) -> usize
         ensures { λ r. ⌜ r ≡ self .filled ⌝ }
     {
         self.filled
+    }
+
+    // Whether every DT has a checksum (YappC).
+    pub fn checked(self) -> bool
+        ensures { λ r. ⌜ r ≡ self .checked ⌝ }
+    {
+        self.checked
     }
 
     // Takes bytes of the chunk, at most to the end of one packet. An empty chunk changes nothing.
