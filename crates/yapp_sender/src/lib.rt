@@ -22,7 +22,7 @@ ghost use Rattle.fields.specs.Buffer.{over, writtenOf, leftOf};
 ghost use Rattle.spans.specs.Span.{sizeOf};
 ghost use Rattle.packets.specs.Packet.{placeOf};
 ghost use Rattle.packets.specs.Content.{headerForm, contentOf};
-ghost use Rattle.packets.specs.Kind.{partsOf};
+ghost use Rattle.packets.specs.Kind.{RE, partsOf};
 ghost use Rattle.calls.specs.Checks.{checkOf};
 ghost use Rattle.yapp.specs.declared.SenderState.the-variants.{S, CW};
 ghost use Rattle.yapp.specs.Steps.{writes, SenderSettings, senderResumes, leftBy, senderTakes, sendsBlock, senderLeaves, senderTimes, senderStops, senderEnded};
@@ -74,6 +74,11 @@ struct Step {
     checked: bool,
     out: Out,
 }
+
+// The number of TX among the kinds, and of resume among the actions.
+const TX: usize = 15;
+
+const RESUME: u8 = 10;
 
 // ---- The beginning
 
@@ -362,17 +367,26 @@ fn resumes_at(core: SenderCore, checked: bool, position: u32, flag: bool) -> Ste
     aborts(Outcome::Unexpected, checked)
 }
 
-// A packet has come.
+// A packet in SH that is to resume, which is an RE.
+fn resumes_by(core: SenderCore, checked: bool, packet: Packet) -> Step
+    requires { ⌜ partsOf (contentOf [] packet) .kind ≡ RE ⌝ }
+    ensures { λ r. ⌜ ((s : SenderSettings) (file bytes : List ℕ) → s .resumes ≡ core .resumes → s .size ≡ core .size → moveOf s file r ≡ senderResumes s checked (partsOf (contentOf bytes packet) .number) (partsOf (contentOf bytes packet) .flag)) ⌝ }
+{
+    let Packet::RE(r) = packet else {
+        return aborts(Outcome::Unexpected, checked);
+    };
+    resumes_at(core, checked, r.position, r.checked)
+}
+
+// A packet of this kind has come.
 fn takes(core: SenderCore, checked: bool, kind: usize, packet: Packet) -> Step
     requires { ⌜ kind ≡ partsOf (contentOf [] packet) .kind ⌝ }
     ensures { λ r. ⌜ ((s : SenderSettings) (file bytes : List ℕ) → s .resumes ≡ core .resumes → s .size ≡ core .size → moveOf s file r ≡ senderTakes s (core .state) checked (contentOf bytes packet)) ⌝ }
 {
     let state = core.state;
     let action = table::send_action(state, kind);
-    if action == 10 {
-        if let Packet::RE(r) = packet {
-            return resumes_at(core, checked, r.position, r.checked);
-        }
+    if action == RESUME {
+        return resumes_by(core, checked, packet);
     }
     step_by(state, checked, action)
 }
@@ -460,6 +474,15 @@ fn answered(
     }
 }
 
+// The answer of a call that no bytes came with.
+fn settled(m: Sender, step: Step, file: &[u8], reply: &mut [u8]) -> SenderAnswer
+    requires { ⌜ 259 ≤ length (now reply) ⌝ }
+    ensures { λ r. ⌜ replied m (m .reader) 0 nowhere (moveOf (settingsOf m) (now (file .entry)) step) (now (reply .entry)) ≡ record { answer = r; reply = now (reply .exit) } ⌝ }
+{
+    let reader = m.reader;
+    answered(m, reader, 0, no_place(), step, file, reply)
+}
+
 // ---- Text to show
 
 // Whether the file is being sent.
@@ -502,12 +525,10 @@ fn shown_in(state: SenderState, kind: usize, reader: Reader, found: Span) -> Pla
         if kind == TX {
             return text_place(reader, found);
         }
+        return no_place();
     }
     no_place()
 }
-
-// The number of TX among the kinds.
-const TX: usize = 15;
 
 // ---- The calls
 
@@ -612,7 +633,7 @@ impl Sender {
         if calls::is_taken(status) {
             let state = core.state;
             let step = leaves(state, reader.checked(), core.block, file);
-            return answered(self, reader, 0, no_place(), step, file, reply);
+            return settled(self, step, file, reply);
         }
         refused(self, status)
     }
@@ -640,7 +661,7 @@ impl Sender {
         if calls::is_taken(status) {
             let state = core.state;
             let step = times(state, reader.checked());
-            return answered(self, reader, 0, no_place(), step, file, reply);
+            return settled(self, step, file, reply);
         }
         refused(self, status)
     }
@@ -655,7 +676,7 @@ impl Sender {
         if calls::is_taken(status) {
             let state = core.state;
             let step = stops(state, reader.checked());
-            return answered(self, reader, 0, no_place(), step, file, reply);
+            return settled(self, step, file, reply);
         }
         refused(self, status)
     }

@@ -1,0 +1,42 @@
+-- What is laid into the reply buffer. Assumes nothing.
+use mathlib.Core.Path.{_≡_, refl, sym, ap, _∙_}
+use mathlib.Core.Bool.{Bool}
+use mathlib.Core.List.{List, [], _∷_, append-nil}
+use Prim.Native.Nat.{ℕ, _≤_}
+use native.Mathlib.Omega.{arith}
+use lib.ListN.{length}
+use borrow.Author.Tests.{le-ltb}
+use Rattle.fields.specs.declared.Written.{Written}
+use Rattle.fields.specs.declared.Written.the-variants.{Bytes, Formless}
+use Rattle.fields.specs.Buffer.{Form, formless, bytes, bytesIn, over, writtenOf, leftOf}
+use Rattle.fields.proofs.Buffer.{over-none}
+use Rattle.packets.specs.Content.{Content, formOf}
+use Rattle.yapp.specs.Steps.{writes}
+use Rattle.yapp_sender.specs.Acts.{countOf}
+
+-- the bytes b at the front of the buffer d, which is then e; r is how many bytes that are
+abbrev pub Laid : List ℕ → List ℕ → List ℕ → ℕ → Type 0
+Laid b d e r = (r ≡ length b) × (e ≡ over 0 b d)
+
+-- a writer that answers w has laid down what its form f has; what has no form is nothing
+wrote : (f : Form) (d e : List ℕ) (w : Written) (r : ℕ) → 259 ≤ length d → r ≡ countOf w → (w ≡ writtenOf 259 f d) × (e ≡ leftOf 259 f d)
+    → Laid (bytesIn f) d e r
+unfolding writtenOf leftOf
+wrote formless d e w r h q p =
+    let a : w ≡ Formless = p .0 ∙ rw (le-ltb (length d) 259 h) in
+    (q ∙ rw a, p .1 ∙ rw (le-ltb (length d) 259 h) (sym (over-none d)))
+wrote (bytes bs) d e w r h q p =
+    let a : w ≡ Bytes (length bs) = p .0 ∙ rw (le-ltb (length d) 259 h) in
+    (q ∙ rw a, p .1 ∙ rw (le-ltb (length d) 259 h))
+
+-- nothing, or one packet
+pub put-nothing : (k : Bool) (l : List Content) (d : List ℕ) → l ≡ [] → Laid (writes k l) d d 0
+unfolding writes
+put-nothing k l d e = rw e (refl, sym (over-none d))
+
+pub put-one : (k : Bool) (l : List Content) (c : Content) (d e : List ℕ) (w : Written) (r : ℕ) → l ≡ c ∷ [] → 259 ≤ length d → r ≡ countOf w
+    → (w ≡ writtenOf 259 (formOf k c) d) × (e ≡ leftOf 259 (formOf k c) d) → Laid (writes k l) d e r
+unfolding writes
+put-one k l c d e w r q h n p =
+    let j : writes k l ≡ bytesIn (formOf k c) = ap (writes k) q ∙ append-nil (bytesIn (formOf k c)) in
+    rw j (wrote (formOf k c) d e w r h n p)

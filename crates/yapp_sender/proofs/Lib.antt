@@ -1,0 +1,4 @@
+pub mod Tags
+pub mod Deciding
+pub mod Acting
+pub mod Calls

@@ -1,0 +1,50 @@
+-- TX in SD is shown. Assumes nothing.
+use mathlib.Core.Path.{_≡_, sym, _∙_}
+use mathlib.Core.Bool.{true, false}
+use borrow.Author.Tests.{eq-eqb, ne-eqb}
+use Rattle.yapp_sender.specs.Sender.{isSD}
+use borrow.Author.Needs.{needs}
+use Rattle.yapp_sender.proofs.shown_in.Statement.{statement}
+use Rattle.yapp_sender.proofs.shown_in.Tie as tie
+
+is-sd-requires : tie.Need-is-sd-requires
+is-sd-requires c κs = search needs
+
+text-place-requires : tie.Need-text-place-requires
+text-place-requires c κs = search needs
+
+returns : tie.Need-returns
+returns c =
+    let a = c .before .before .before .before .args in
+    let e : isSD (a .state) ≡ true = sym (c .before .before .before .is-sd .ensures) ∙ c .before .before .if1 .taken in
+    c .text-place .ensures ∙ rw (e, c .before .if2 .taken)
+
+no-place-requires : tie.Need-no-place-requires
+no-place-requires c κs = search needs
+
+returns-2 : tie.Need-returns-2
+returns-2 c =
+    let a = c .before .before .before .before .args in
+    let e : isSD (a .state) ≡ true = sym (c .before .before .before .is-sd .ensures) ∙ c .before .before .if1 .taken in
+    c .no-place .ensures ∙ rw (e, ne-eqb _ _ (c .before .if2 .left))
+
+no-place-requires-2 : tie.Need-no-place-requires-2
+no-place-requires-2 c κs = search needs
+
+returns-3 : tie.Need-returns-3
+returns-3 c =
+    let a = c .before .before .before .args in
+    let e : isSD (a .state) ≡ false = sym (c .before .before .is-sd .ensures) ∙ c .before .if1 .left in
+    c .no-place2 .ensures ∙ rw e
+
+pub shown-in-spec : {M : Type 1} → statement M
+shown-in-spec =
+    tie.close
+    (tie.spec
+    is-sd-requires
+    text-place-requires
+    returns
+    no-place-requires
+    returns-2
+    no-place-requires-2
+    returns-3)
