@@ -12,7 +12,11 @@ use Rattle.fields.specs.Buffer.{Form, formless, bytes, bytesIn, over, writtenOf
 use Rattle.fields.proofs.Buffer.{over-none}
 use Rattle.packets.specs.Content.{Content, formOf}
 use Rattle.yapp.specs.Steps.{writes}
-use Rattle.yapp_sender.specs.Acts.{countOf}
+use Rattle.yapp_sender.specs.declared.Out.{Out}
+use Rattle.yapp_sender.specs.declared.Out.the-variants.{Nothing}
+use Rattle.yapp_sender.specs.declared.Sender.{Sender}
+use Rattle.yapp_sender.specs.Sender.{settingsOf}
+use Rattle.yapp_sender.specs.Acts.{contentsOf, countOf}
 
 -- the bytes b at the front of the buffer d, which is then e; r is how many bytes that are
 abbrev pub Laid : List ℕ → List ℕ → List ℕ → ℕ → Type 0
@@ -29,14 +33,20 @@ wrote (bytes bs) d e w r h q p =
     let a : w ≡ Bytes (length bs) = p .0 ∙ rw (le-ltb (length d) 259 h) in
     (q ∙ rw a, p .1 ∙ rw (le-ltb (length d) 259 h))
 
--- nothing, or one packet
-pub put-nothing : (k : Bool) (l : List Content) (d : List ℕ) → l ≡ [] → Laid (writes k l) d d 0
+-- one packet, of the form f
+pub put-one : (k : Bool) (c : Content) (f : Form) (d e : List ℕ) (w : Written) (r : ℕ) → 259 ≤ length d → r ≡ countOf w
+    → (w ≡ writtenOf 259 f d) × (e ≡ leftOf 259 f d) → f ≡ formOf k c → Laid (writes k (c ∷ [])) d e r
 unfolding writes
-put-nothing k l d e = rw e (refl, sym (over-none d))
+put-one k c f d e w r h n p q =
+    let j : writes k (c ∷ []) ≡ bytesIn f = append-nil (bytesIn (formOf k c)) ∙ ap bytesIn (sym q) in
+    rw j (wrote f d e w r h n p)
 
-pub put-one : (k : Bool) (l : List Content) (c : Content) (d e : List ℕ) (w : Written) (r : ℕ) → l ≡ c ∷ [] → 259 ≤ length d → r ≡ countOf w
-    → (w ≡ writtenOf 259 (formOf k c) d) × (e ≡ leftOf 259 (formOf k c) d) → Laid (writes k l) d e r
-unfolding writes
-put-one k l c d e w r q h n p =
-    let j : writes k l ≡ bytesIn (formOf k c) = ap (writes k) q ∙ append-nil (bytesIn (formOf k c)) in
-    rw j (wrote (formOf k c) d e w r h n p)
+-- out is the case x
+module _ (m : Sender) (file : List ℕ) (k : Bool) (out : Out) where
+  pub put-nothing : (d : List ℕ) → out ≡ Nothing → Laid (writes k (contentsOf (settingsOf m) file out)) d d 0
+  unfolding writes
+  put-nothing d q = rw q (refl, sym (over-none d))
+
+  pub put-same : (x : Out) (d e : List ℕ) (r : ℕ) → out ≡ x → Laid (writes k (contentsOf (settingsOf m) file x)) d e r
+      → Laid (writes k (contentsOf (settingsOf m) file out)) d e r
+  put-same x d e r q p = rw q p

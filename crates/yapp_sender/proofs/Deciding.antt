@@ -97,7 +97,7 @@ resume-kind s k e = go (eqb k RE) refl
 
 module _ (s : SenderSettings) (file : List ℕ) (st : SenderState) (k : Bool) (p : Parts) where
   does-by : (a : Action) → (actionNumber a ≡ 10 → ⊥) → moveOf s file (stepBy st k (actionNumber a)) ≡ senderDoes s st k a p
-  unfolding senderDoes actionNumber look stateBy checkedBy outBy contentOf
+  unfolding senderDoes actionNumber look stateBy checkedBy outBy
   does-by nothing h = refl
   does-by abort h = refl
   does-by refused h = refl

@@ -4,8 +4,8 @@ use calls::Status;
 use fields::Place;
 use fields::Stamp;
 use fields::Written;
-use packets::Block;
 use packets::Packet;
+use packets::Resume;
 use reader::Reader;
 use reader::Received;
 use spans::Span;
@@ -13,22 +13,23 @@ use yapp::SenderState;
 use yapp::table;
 ghost use mathlib.Core.Path.{_≡_};
 ghost use mathlib.Core.Bool.{_&&_};
-ghost use mathlib.Core.List.{List, []};
+ghost use mathlib.Core.List.{List, [], _∷_};
 ghost use Prim.Native.Nat.{ℕ, _≤_};
 ghost use lib.ListN.{length, take};
 ghost use lib.Dec.{eqb};
 ghost use Rattle.fields.specs.Pick.{pick};
-ghost use Rattle.fields.specs.Buffer.{over, writtenOf, leftOf};
+ghost use Rattle.fields.specs.Buffer.{over};
 ghost use Rattle.spans.specs.Span.{sizeOf};
 ghost use Rattle.packets.specs.Packet.{placeOf};
-ghost use Rattle.packets.specs.Content.{headerForm, contentOf};
+ghost use Rattle.packets.specs.Content.{contentOf};
 ghost use Rattle.packets.specs.Kind.{RE, partsOf};
 ghost use Rattle.calls.specs.Checks.{checkOf};
-ghost use Rattle.yapp.specs.declared.SenderState.the-variants.{S, CW};
+ghost use Rattle.yapp.specs.declared.SenderState.the-variants.{S, CW, Ended};
 ghost use Rattle.yapp.specs.Steps.{writes, SenderSettings, senderResumes, leftBy, senderTakes, sendsBlock, senderLeaves, senderTimes, senderStops, senderEnded};
-ghost use Rattle.yapp_sender.specs.declared.Out.the-variants.{Nothing, Of};
+ghost use Rattle.yapp_sender.specs.declared.Signal.the-variants.{CN};
+ghost use Rattle.yapp_sender.specs.declared.Out.the-variants.{Nothing, HD, DT, Of};
 ghost use Rattle.yapp_sender.specs.Sender.{refusedBegin, begunSender, begin as beginOf, settingsOf, nowhere, moved as movedOf, replied, isSD, arrived as arrivedOf, transmit as transmitOf, receive as receiveOf, timeout as timeoutOf, cancel as cancelOf};
-ghost use Rattle.yapp_sender.specs.Acts.{withinLimits, contentsOf, moveOf, plainCN, stateBy, checkedBy, outBy, stepBy, countOf};
+ghost use Rattle.yapp_sender.specs.Acts.{withinLimits, contentsOf, signalOf, moveOf, stateBy, checkedBy, outBy, stepBy, countOf};
 
 // A sender without its buffers.
 pub struct SenderCore {
@@ -60,12 +61,22 @@ pub struct SenderAnswer {
     pub shown: Place,
 }
 
+// The packets that carry nothing; a CN has no reason.
+enum Signal {
+    SI,
+    EF,
+    ET,
+    CA,
+    CN,
+}
+
 // What is to be sent.
 enum Out {
     Nothing,
     HD,
-    // A packet whose places are in the file.
-    Of(Packet),
+    // The next block of the file, from this index on.
+    DT { from: usize },
+    Of(Signal),
 }
 
 // What a call does: the state after it, whether it is in YappC then, and what is sent.
@@ -152,36 +163,29 @@ fn stays(state: SenderState, checked: bool) -> Step
     }
 }
 
-// The packet is sent.
-fn sends(state: SenderState, checked: bool, packet: Packet) -> Step
-    ensures { λ r. ⌜ r ≡ record { state = state; checked = checked; out = Of packet } ⌝ }
+// The signal is sent.
+fn sends(state: SenderState, checked: bool, signal: Signal) -> Step
+    ensures { λ r. ⌜ r ≡ record { state = state; checked = checked; out = Of signal } ⌝ }
 {
     Step {
         state,
         checked,
-        out: Out::Of(packet),
+        out: Out::Of(signal),
     }
-}
-
-// Where there is no text.
-fn no_place() -> Place
-    ensures { λ r. ⌜ r ≡ nowhere ⌝ }
-{
-    Place { start: 0, len: 0 }
-}
-
-// CN without reason.
-fn plain_cn() -> Packet
-    ensures { λ r. ⌜ r ≡ plainCN ⌝ }
-{
-    Packet::CN(no_place())
 }
 
 // Abort: CN without reason, and CW.
 fn aborts(outcome: Outcome, checked: bool) -> Step
-    ensures { λ r. ⌜ r ≡ record { state = CW outcome; checked = checked; out = Of plainCN } ⌝ }
+    ensures { λ r. ⌜ r ≡ record { state = CW outcome; checked = checked; out = Of CN } ⌝ }
 {
-    sends(SenderState::CW { outcome }, checked, plain_cn())
+    sends(SenderState::CW { outcome }, checked, Signal::CN)
+}
+
+// The end is reached.
+fn ends(outcome: Outcome, checked: bool) -> Step
+    ensures { λ r. ⌜ r ≡ record { state = Ended outcome; checked = checked; out = Nothing } ⌝ }
+{
+    stays(SenderState::Ended { outcome }, checked)
 }
 
 // A leave in S: the first gives SI, a later one nothing.
@@ -195,7 +199,7 @@ fn announces(begun: bool, timeouts: u8, checked: bool) -> Step
     if begun {
         return stays(state, checked);
     }
-    sends(state, checked, Packet::SI)
+    sends(state, checked, Signal::SI)
 }
 
 // A leave in SD: the next block, or EF after the last.
@@ -205,16 +209,14 @@ fn sends_block(block: usize, file: &[u8], at: u32, checked: bool) -> Step
 {
     let from = at as usize;
     if from < file.len() {
-        let data = fields::part(file, from, block);
-        let next = from + data.len();
-        let place = Place {
-            start: from,
-            len: block,
+        let next = from + fields::part(file, from, block).len();
+        return Step {
+            state: SenderState::SD { at: next as u32 },
+            checked,
+            out: Out::DT { from },
         };
-        let packet = Packet::DT(Block { place, sound: true });
-        return sends(SenderState::SD { at: next as u32 }, checked, packet);
     }
-    sends(SenderState::SE, checked, Packet::EF)
+    sends(SenderState::SE, checked, Signal::EF)
 }
 
 // A chance to send (leave): SI, or the next block of the file.
@@ -243,7 +245,7 @@ fn repeats(begun: bool, timeouts: u8, checked: bool) -> Step
                 begun,
                 timeouts: timeouts + 1,
             };
-            return sends(state, checked, Packet::SI);
+            return sends(state, checked, Signal::SI);
         }
         return aborts(Outcome::TimedOut, checked);
     }
@@ -259,11 +261,8 @@ fn times(state: SenderState, checked: bool) -> Step
         SenderState::SH => aborts(Outcome::TimedOut, checked),
         SenderState::SD { at: _ } => stays(state, checked),
         SenderState::SE => aborts(Outcome::TimedOut, checked),
-        SenderState::ST => {
-            let outcome = Outcome::Success;
-            stays(SenderState::Ended { outcome }, checked)
-        }
-        SenderState::CW { outcome } => stays(SenderState::Ended { outcome }, checked),
+        SenderState::ST => ends(Outcome::Success, checked),
+        SenderState::CW { outcome } => ends(outcome, checked),
         SenderState::Ended { outcome: _ } => stays(state, checked),
     }
 }
@@ -335,11 +334,11 @@ fn out_by(action: u8) -> Out
     ensures { λ r. ⌜ r ≡ outBy action ⌝ }
 {
     match action {
-        1 => Out::Of(plain_cn()),
-        3 => Out::Of(Packet::CA),
-        6 => Out::Of(Packet::CA),
+        1 => Out::Of(Signal::CN),
+        3 => Out::Of(Signal::CA),
+        6 => Out::Of(Signal::CA),
         7 => Out::HD,
-        11 => Out::Of(Packet::ET),
+        11 => Out::Of(Signal::ET),
         _ => Out::Nothing,
     }
 }
@@ -354,12 +353,12 @@ fn step_by(state: SenderState, checked: bool, action: u8) -> Step
     }
 }
 
-// RE at a position: with resume off it is 6, past the file 16.
-fn resumes_at(core: SenderCore, checked: bool, position: u32, flag: bool) -> Step
-    ensures { λ r. ⌜ ((s : SenderSettings) (file : List ℕ) → s .resumes ≡ core .resumes → s .size ≡ core .size → moveOf s file r ≡ senderResumes s checked position flag) ⌝ }
+// RE: with resume off it is 6, past the file 16.
+fn resumes_at(resumes: bool, size: u32, checked: bool, position: u32, flag: bool) -> Step
+    ensures { λ r. ⌜ ((s : SenderSettings) (file : List ℕ) → s .resumes ≡ resumes → s .size ≡ size → moveOf s file r ≡ senderResumes s checked position flag) ⌝ }
 {
-    if core.resumes {
-        if position <= core.size {
+    if resumes {
+        if position <= size {
             return stays(SenderState::SD { at: position }, flag);
         }
         return aborts(Outcome::NotOurs, checked);
@@ -367,28 +366,41 @@ fn resumes_at(core: SenderCore, checked: bool, position: u32, flag: bool) -> Ste
     aborts(Outcome::Unexpected, checked)
 }
 
-// A packet in SH that is to resume, which is an RE.
-fn resumes_by(core: SenderCore, checked: bool, packet: Packet) -> Step
+// What RE asks for, of a packet that is an RE.
+fn asked(packet: Packet) -> Resume
     requires { ⌜ partsOf (contentOf [] packet) .kind ≡ RE ⌝ }
-    ensures { λ r. ⌜ ((s : SenderSettings) (file bytes : List ℕ) → s .resumes ≡ core .resumes → s .size ≡ core .size → moveOf s file r ≡ senderResumes s checked (partsOf (contentOf bytes packet) .number) (partsOf (contentOf bytes packet) .flag)) ⌝ }
+    ensures { λ r. ⌜ ((bytes : List ℕ) → (partsOf (contentOf bytes packet) .number ≡ r .position) × (partsOf (contentOf bytes packet) .flag ≡ r .checked)) ⌝ }
 {
     let Packet::RE(r) = packet else {
-        return aborts(Outcome::Unexpected, checked);
+        return Resume {
+            position: 0,
+            checked: false,
+        };
     };
-    resumes_at(core, checked, r.position, r.checked)
+    r
+}
+
+// A packet that is an RE, in SH.
+fn resumes_by(m: Sender, packet: Packet) -> Step
+    requires { ⌜ partsOf (contentOf [] packet) .kind ≡ RE ⌝ }
+    ensures { λ r. ⌜ ((file bytes : List ℕ) → moveOf (settingsOf m) file r ≡ senderResumes (settingsOf m) (m .reader .checked) (partsOf (contentOf bytes packet) .number) (partsOf (contentOf bytes packet) .flag)) ⌝ }
+{
+    let core = m.core;
+    let r = asked(packet);
+    resumes_at(core.resumes, core.size, m.checked(), r.position, r.checked)
 }
 
 // A packet of this kind has come.
-fn takes(core: SenderCore, checked: bool, kind: usize, packet: Packet) -> Step
+fn takes(m: Sender, kind: usize, packet: Packet) -> Step
     requires { ⌜ kind ≡ partsOf (contentOf [] packet) .kind ⌝ }
-    ensures { λ r. ⌜ ((s : SenderSettings) (file bytes : List ℕ) → s .resumes ≡ core .resumes → s .size ≡ core .size → moveOf s file r ≡ senderTakes s (core .state) checked (contentOf bytes packet)) ⌝ }
+    ensures { λ r. ⌜ ((file bytes : List ℕ) → moveOf (settingsOf m) file r ≡ senderTakes (settingsOf m) (m .core .state) (m .reader .checked) (contentOf bytes packet)) ⌝ }
 {
-    let state = core.state;
+    let state = m.state();
     let action = table::send_action(state, kind);
     if action == RESUME {
-        return resumes_by(core, checked, packet);
+        return resumes_by(m, packet);
     }
-    step_by(state, checked, action)
+    step_by(state, m.checked(), action)
 }
 
 // ---- Acting
@@ -404,38 +416,82 @@ fn count(written: Written) -> usize
     }
 }
 
+// Where there is no text.
+fn no_place() -> Place
+    ensures { λ r. ⌜ r ≡ nowhere ⌝ }
+{
+    Place { start: 0, len: 0 }
+}
+
+// The packet of a signal.
+fn packet_by(signal: Signal) -> Packet
+    ensures { λ r. ⌜ ((bytes : List ℕ) → contentOf bytes r ≡ signalOf signal) ⌝ }
+{
+    match signal {
+        Signal::SI => Packet::SI,
+        Signal::EF => Packet::EF,
+        Signal::ET => Packet::ET,
+        Signal::CA => Packet::CA,
+        Signal::CN => Packet::CN(no_place()),
+    }
+}
+
 // HD with the sender's name, size and stamp.
-fn write_header(m: Sender, reply: &mut [u8]) -> Written
-    ensures { λ r. ⌜ (r ≡ writtenOf 259 (headerForm (take (m .core .named) (m .name)) (m .core .size) (m .core .stamp)) (now (reply .entry))) × (now (reply .exit) ≡ leftOf 259 (headerForm (take (m .core .named) (m .name)) (m .core .size) (m .core .stamp)) (now (reply .entry))) ⌝ }
+fn put_header(m: Sender, checked: bool, reply: &mut [u8]) -> usize
+    requires { ⌜ 259 ≤ length (now reply) ⌝ }
+    ensures { λ r. ⌜ (r ≡ length (writes checked (contentsOf (settingsOf m) [] HD))) × (now (reply .exit) ≡ over 0 (writes checked (contentsOf (settingsOf m) [] HD)) (now (reply .entry))) ⌝ }
 {
     let core = m.core;
     let stamp = core.stamp;
     let name = m.name;
     let all = &name[..];
-    writer::write_hd(reply, fields::part(all, 0, core.named), core.size, stamp)
+    let own = fields::part(all, 0, core.named);
+    count(writer::write_hd(reply, own, core.size, stamp))
+}
+
+// DT with the block of the file from an index on.
+fn put_block(m: Sender, from: usize, checked: bool, file: &[u8], reply: &mut [u8]) -> usize
+    requires { ⌜ 259 ≤ length (now reply) ⌝ }
+    ensures { λ r. ⌜ (r ≡ length (writes checked (contentsOf (settingsOf m) (now (file .entry)) (DT from)))) × (now (reply .exit) ≡ over 0 (writes checked (contentsOf (settingsOf m) (now (file .entry)) (DT from))) (now (reply .entry))) ⌝ }
+{
+    let core = m.core;
+    let data = fields::part(file, from, core.block);
+    count(writer::write_dt(reply, data, checked))
+}
+
+// A packet that carries nothing.
+fn put_signal(signal: Signal, checked: bool, reply: &mut [u8]) -> usize
+    requires { ⌜ 259 ≤ length (now reply) ⌝ }
+    ensures { λ r. ⌜ (r ≡ length (writes checked (signalOf signal ∷ []))) × (now (reply .exit) ≡ over 0 (writes checked (signalOf signal ∷ [])) (now (reply .entry))) ⌝ }
+{
+    count(writer::write(packet_by(signal), b"", checked, reply))
 }
 
 // Lays what is sent into the reply buffer, and returns how many bytes that are.
-fn put(m: Sender, checked: bool, out: Out, file: &[u8], reply: &mut [u8]) -> usize
+fn put(m: Sender, step: Step, file: &[u8], reply: &mut [u8]) -> usize
     requires { ⌜ 259 ≤ length (now reply) ⌝ }
-    ensures { λ r. ⌜ (r ≡ length (writes checked (contentsOf (settingsOf m) (now (file .entry)) out))) × (now (reply .exit) ≡ over 0 (writes checked (contentsOf (settingsOf m) (now (file .entry)) out)) (now (reply .entry))) ⌝ }
+    ensures { λ r. ⌜ (r ≡ length (writes (step .checked) (contentsOf (settingsOf m) (now (file .entry)) (step .out)))) × (now (reply .exit) ≡ over 0 (writes (step .checked) (contentsOf (settingsOf m) (now (file .entry)) (step .out))) (now (reply .entry))) ⌝ }
 {
+    let checked = step.checked;
+    let out = step.out;
     match out {
         Out::Nothing => 0,
-        Out::HD => count(write_header(m, reply)),
-        Out::Of(packet) => count(writer::write(packet, file, checked, reply)),
+        Out::HD => put_header(m, checked, reply),
+        Out::DT { from } => put_block(m, from, checked, file, reply),
+        Out::Of(signal) => put_signal(signal, checked, reply),
     }
 }
 
-// The sender with another reader, state and mode.
-fn moved(m: Sender, reader: Reader, state: SenderState, checked: bool) -> Sender
-    ensures { λ r. ⌜ r ≡ movedOf m reader (record { state = state; checked = checked; out = [] }) ⌝ }
+// The sender with another reader, in the state and mode of the step.
+fn moved(m: Sender, reader: Reader, step: Step) -> Sender
+    ensures { λ r. ⌜ r ≡ movedOf m reader (record { state = step .state; checked = step .checked; out = [] }) ⌝ }
 {
     let core = m.core;
     let stamp = core.stamp;
     let name = m.name;
+    let state = step.state;
     Sender {
-        reader: reader.checking(checked),
+        reader: reader.checking(step.checked),
         name,
         core: SenderCore {
             state,
@@ -461,12 +517,9 @@ fn answered(
     requires { ⌜ 259 ≤ length (now reply) ⌝ }
     ensures { λ r. ⌜ replied m reader taken shown (moveOf (settingsOf m) (now (file .entry)) step) (now (reply .entry)) ≡ record { answer = r; reply = now (reply .exit) } ⌝ }
 {
-    let state = step.state;
-    let checked = step.checked;
-    let out = step.out;
-    let sent = put(m, checked, out, file, reply);
+    let sent = put(m, step, file, reply);
     SenderAnswer {
-        sender: moved(m, reader, state, checked),
+        sender: moved(m, reader, step),
         status: Status::Taken,
         taken,
         sent,
@@ -518,11 +571,13 @@ fn text_place(reader: Reader, found: Span) -> Place
 }
 
 // SD passes TX on for display.
-fn shown_in(state: SenderState, kind: usize, reader: Reader, found: Span) -> Place
-    ensures { λ r. ⌜ r ≡ pick (isSD state && eqb kind 15) (placeOf (reader .checked) (take (sizeOf found) (reader .pending))) nowhere ⌝ }
+fn shown_in(state: SenderState, kind: usize, got: Received) -> Place
+    ensures { λ r. ⌜ r ≡ pick (isSD state && eqb kind 15) (placeOf (got .reader .checked) (take (sizeOf (got .found)) (got .reader .pending))) nowhere ⌝ }
 {
     if is_sd(state) {
         if kind == TX {
+            let reader = got.reader;
+            let found = got.found;
             return text_place(reader, found);
         }
         return no_place();
@@ -544,11 +599,11 @@ fn is_ended(state: SenderState) -> bool
 }
 
 // The checks of a call.
-fn check(core: SenderCore, lent: usize, reply: usize) -> Status
-    ensures { λ r. ⌜ r ≡ checkOf (senderEnded (core .state)) reply 0 lent (core .size) ⌝ }
+fn check(m: Sender, lent: usize, reply: usize) -> Status
+    ensures { λ r. ⌜ r ≡ checkOf (senderEnded (m .core .state)) reply 0 lent (m .core .size) ⌝ }
 {
-    let state = core.state;
-    calls::check(is_ended(state), reply, 0, lent, core.size as usize)
+    let core = m.core;
+    calls::check(is_ended(m.state()), reply, 0, lent, core.size as usize)
 }
 
 // A refused call changes nothing.
@@ -564,20 +619,25 @@ fn refused(sender: Sender, status: Status) -> SenderAnswer
     }
 }
 
+// What a leave does to the sender.
+fn left(m: Sender, file: &[u8]) -> Step
+    requires { ⌜ length (now file) ≤ 4294967295 ⌝ }
+    ensures { λ r. ⌜ moveOf (settingsOf m) (now (file .entry)) r ≡ senderLeaves (settingsOf m) (now (file .entry)) (m .core .state) (m .reader .checked) ⌝ }
+{
+    let core = m.core;
+    leaves(m.state(), m.checked(), core.block, file)
+}
+
 // What arrived is acted on.
 fn arrived(m: Sender, got: Received, file: &[u8], reply: &mut [u8]) -> SenderAnswer
     requires { ⌜ 259 ≤ length (now reply) ⌝ }
     ensures { λ r. ⌜ arrivedOf m got (now (reply .entry)) ≡ record { answer = r; reply = now (reply .exit) } ⌝ }
 {
-    let core = m.core;
-    let state = core.state;
-    let own = m.reader;
     let reader = got.reader;
-    let found = got.found;
     let packet = got.packet;
     let kind = table::kind_of(packet);
-    let step = takes(core, own.checked(), kind, packet);
-    let shown = shown_in(state, kind, reader, found);
+    let shown = shown_in(m.state(), kind, got);
+    let step = takes(m, kind, packet);
     answered(m, reader, got.taken, shown, step, file, reply)
 }
 
@@ -627,12 +687,9 @@ impl Sender {
     pub fn transmit(self, file: &[u8], reply: &mut [u8]) -> SenderAnswer
         ensures { λ r. ⌜ transmitOf self (now (file .entry)) (now (reply .entry)) ≡ record { answer = r; reply = now (reply .exit) } ⌝ }
     {
-        let core = self.core;
-        let reader = self.reader;
-        let status = check(core, file.len(), reply.len());
+        let status = check(self, file.len(), reply.len());
         if calls::is_taken(status) {
-            let state = core.state;
-            let step = leaves(state, reader.checked(), core.block, file);
+            let step = left(self, file);
             return settled(self, step, file, reply);
         }
         refused(self, status)
@@ -642,10 +699,9 @@ impl Sender {
     pub fn receive(self, chunk: &[u8], file: &[u8], reply: &mut [u8]) -> SenderAnswer
         ensures { λ r. ⌜ receiveOf self (now (chunk .entry)) (now (file .entry)) (now (reply .entry)) ≡ record { answer = r; reply = now (reply .exit) } ⌝ }
     {
-        let core = self.core;
-        let reader = self.reader;
-        let status = check(core, file.len(), reply.len());
+        let status = check(self, file.len(), reply.len());
         if calls::is_taken(status) {
+            let reader = self.reader;
             return arrived(self, reader.receive(chunk), file, reply);
         }
         refused(self, status)
@@ -655,12 +711,9 @@ impl Sender {
     pub fn timeout(self, file: &[u8], reply: &mut [u8]) -> SenderAnswer
         ensures { λ r. ⌜ timeoutOf self (now (file .entry)) (now (reply .entry)) ≡ record { answer = r; reply = now (reply .exit) } ⌝ }
     {
-        let core = self.core;
-        let reader = self.reader;
-        let status = check(core, file.len(), reply.len());
+        let status = check(self, file.len(), reply.len());
         if calls::is_taken(status) {
-            let state = core.state;
-            let step = times(state, reader.checked());
+            let step = times(self.state(), self.checked());
             return settled(self, step, file, reply);
         }
         refused(self, status)
@@ -670,12 +723,9 @@ impl Sender {
     pub fn cancel(self, file: &[u8], reply: &mut [u8]) -> SenderAnswer
         ensures { λ r. ⌜ cancelOf self (now (file .entry)) (now (reply .entry)) ≡ record { answer = r; reply = now (reply .exit) } ⌝ }
     {
-        let core = self.core;
-        let reader = self.reader;
-        let status = check(core, file.len(), reply.len());
+        let status = check(self, file.len(), reply.len());
         if calls::is_taken(status) {
-            let state = core.state;
-            let step = stops(state, reader.checked());
+            let step = stops(self.state(), self.checked());
             return settled(self, step, file, reply);
         }
         refused(self, status)

@@ -1,5 +1,4 @@
 -- The first leave gives SI, a later one nothing. Assumes nothing.
-use Rattle.packets.specs.Content.{contentOf}
 use Rattle.yapp.specs.Steps.{senderLeaves}
 use borrow.Author.Needs.{needs}
 use Rattle.yapp_sender.proofs.announces.Statement.{statement}
@@ -16,7 +15,7 @@ sends-requires : tie.Need-sends-requires
 sends-requires c κs = search needs
 
 returns-2 : tie.Need-returns-2
-unfolding senderLeaves contentOf
+unfolding senderLeaves
 returns-2 c = λ s file. rw (c .sends .ensures, c .before .if1 .left)
 
 pub announces-spec : {M : Type 1} → statement M

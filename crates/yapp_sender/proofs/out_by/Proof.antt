@@ -2,16 +2,12 @@
 use borrow.Author.Tests.{ne-eqb}
 use Rattle.packets.specs.Kind.{look}
 use Rattle.yapp_sender.specs.Acts.{outBy}
-use borrow.Author.Needs.{needs}
 use Rattle.yapp_sender.proofs.out_by.Statement.{statement}
 use Rattle.yapp_sender.proofs.out_by.Tie as tie
 
-plain-cn-requires : tie.Need-plain-cn-requires
-plain-cn-requires c κs = search needs
-
 returns : tie.Need-returns
 unfolding outBy look
-returns c = rw (c .plain-cn .ensures, c .before .match .keys1)
+returns c = rw (c .match .keys1)
 
 returns-2 : tie.Need-returns-2
 unfolding outBy look
@@ -37,6 +33,4 @@ returns-6 c =
     simp (ne-eqb a 1 (no .0 .0 .0 .0 .1), ne-eqb a 3 (no .0 .0 .0 .1), ne-eqb a 6 (no .0 .0 .1), ne-eqb a 7 (no .0 .1), ne-eqb a 11 (no .1))
 
 pub out-by-spec : {M : Type 1} → statement M
-out-by-spec =
-    tie.close
-    (tie.spec plain-cn-requires returns returns-2 returns-3 returns-4 returns-5 returns-6)
+out-by-spec = tie.close (tie.spec returns returns-2 returns-3 returns-4 returns-5 returns-6)

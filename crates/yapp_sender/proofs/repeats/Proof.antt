@@ -1,6 +1,5 @@
 -- The timer in S. Assumes nothing.
 use borrow.Author.Tests.{lt-ltb, le-ltb}
-use Rattle.packets.specs.Content.{contentOf}
 use Rattle.yapp.specs.Steps.{senderTimes}
 use borrow.Author.Needs.{needs}
 use Rattle.yapp_sender.proofs.repeats.Statement.{statement}
@@ -13,14 +12,14 @@ sends-requires : tie.Need-sends-requires
 sends-requires c κs = search needs
 
 returns : tie.Need-returns
-unfolding senderTimes contentOf
+unfolding senderTimes
 returns c = λ s file. rw (c .sends .ensures, c .before .before .if1 .taken, lt-ltb _ _ (c .before .if2 .taken))
 
 aborts-requires : tie.Need-aborts-requires
 aborts-requires c κs = search needs
 
 returns-2 : tie.Need-returns-2
-unfolding senderTimes contentOf
+unfolding senderTimes
 returns-2 c = λ s file. rw (c .aborts .ensures, c .before .before .if1 .taken, le-ltb _ _ (c .before .if2 .left))
 
 stays-requires : tie.Need-stays-requires

@@ -1,7 +1,7 @@
 -- TX in SD is shown. Assumes nothing.
 use mathlib.Core.Path.{_≡_, sym, _∙_}
 use mathlib.Core.Bool.{true, false}
-use borrow.Author.Tests.{eq-eqb, ne-eqb}
+use borrow.Author.Tests.{ne-eqb}
 use Rattle.yapp_sender.specs.Sender.{isSD}
 use borrow.Author.Needs.{needs}
 use Rattle.yapp_sender.proofs.shown_in.Statement.{statement}
@@ -15,9 +15,9 @@ text-place-requires c κs = search needs
 
 returns : tie.Need-returns
 returns c =
-    let a = c .before .before .before .before .args in
-    let e : isSD (a .state) ≡ true = sym (c .before .before .before .is-sd .ensures) ∙ c .before .before .if1 .taken in
-    c .text-place .ensures ∙ rw (e, c .before .if2 .taken)
+    let a = c .before .before .before .before .before .args in
+    let e : isSD (a .state) ≡ true = sym (c .before .before .before .before .is-sd .ensures) ∙ c .before .before .before .if1 .taken in
+    c .text-place .ensures ∙ rw (e, c .before .before .if2 .taken)
 
 no-place-requires : tie.Need-no-place-requires
 no-place-requires c κs = search needs

@@ -1,5 +1,4 @@
 -- What the operator's stop does, by the state. Assumes nothing.
-use Rattle.packets.specs.Content.{contentOf}
 use Rattle.yapp.specs.Steps.{senderStops}
 use borrow.Author.Needs.{needs}
 use Rattle.yapp_sender.proofs.stops.Statement.{statement}
@@ -48,23 +47,23 @@ stays-requires-2 : tie.Need-stays-requires-2
 stays-requires-2 c κs = search needs
 
 returns : tie.Need-returns
-unfolding senderStops contentOf
+unfolding senderStops
 returns c = λ s file. rw (c .aborts .ensures, c .before .enum-told .given .1)
 
 returns-2 : tie.Need-returns-2
-unfolding senderStops contentOf
+unfolding senderStops
 returns-2 c = λ s file. rw (c .aborts2 .ensures, c .before .enum-told2 .given .1)
 
 returns-3 : tie.Need-returns-3
-unfolding senderStops contentOf
+unfolding senderStops
 returns-3 c = λ s file. rw (c .aborts3 .ensures, c .before .enum-told3 .given .1)
 
 returns-4 : tie.Need-returns-4
-unfolding senderStops contentOf
+unfolding senderStops
 returns-4 c = λ s file. rw (c .aborts4 .ensures, c .before .enum-told4 .given .1)
 
 returns-5 : tie.Need-returns-5
-unfolding senderStops contentOf
+unfolding senderStops
 returns-5 c = λ s file. rw (c .aborts5 .ensures, c .before .enum-told5 .given .1)
 
 returns-6 : tie.Need-returns-6

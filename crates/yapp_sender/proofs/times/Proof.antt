@@ -1,6 +1,5 @@
 -- What a timeout does, by the state. Assumes nothing.
 use mathlib.Core.Path.{_∙_}
-use Rattle.packets.specs.Content.{contentOf}
 use Rattle.yapp.specs.Steps.{senderTimes}
 use borrow.Author.Needs.{needs}
 use Rattle.yapp_sender.proofs.times.Statement.{statement}
@@ -33,27 +32,27 @@ aborts-requires-2 c κs = search needs
 enum-told-4 : tie.Need-enum-told-4
 enum-told-4 c = search needs
 
-stays-requires-2 : tie.Need-stays-requires-2
-stays-requires-2 c κs = search needs
+ends-requires : tie.Need-ends-requires
+ends-requires c κs = search needs
 
 enum-known-state-2 : tie.Need-enum-known-state-2
 enum-known-state-2 c = search needs
 
-stays-requires-3 : tie.Need-stays-requires-3
-stays-requires-3 c κs = search needs
+ends-requires-2 : tie.Need-ends-requires-2
+ends-requires-2 c κs = search needs
 
 enum-told-5 : tie.Need-enum-told-5
 enum-told-5 c = search needs
 
-stays-requires-4 : tie.Need-stays-requires-4
-stays-requires-4 c κs = search needs
+stays-requires-2 : tie.Need-stays-requires-2
+stays-requires-2 c κs = search needs
 
 returns : tie.Need-returns
 unfolding senderTimes
 returns c = λ s file. c .repeats .ensures s file ∙ rw (c .before .before .state .given .1)
 
 returns-2 : tie.Need-returns-2
-unfolding senderTimes contentOf
+unfolding senderTimes
 returns-2 c = λ s file. rw (c .aborts .ensures, c .before .enum-told .given .1)
 
 returns-3 : tie.Need-returns-3
@@ -61,20 +60,20 @@ unfolding senderTimes
 returns-3 c = λ s file. rw (c .stays .ensures, c .before .enum-told2 .given .1)
 
 returns-4 : tie.Need-returns-4
-unfolding senderTimes contentOf
+unfolding senderTimes
 returns-4 c = λ s file. rw (c .aborts2 .ensures, c .before .enum-told3 .given .1)
 
 returns-5 : tie.Need-returns-5
 unfolding senderTimes
-returns-5 c = λ s file. rw (c .stays2 .ensures, c .before .enum-told4 .given .1)
+returns-5 c = λ s file. rw (c .ends .ensures, c .before .enum-told4 .given .1)
 
 returns-6 : tie.Need-returns-6
 unfolding senderTimes
-returns-6 c = λ s file. rw (c .stays3 .ensures, c .before .before .state2 .given .1)
+returns-6 c = λ s file. rw (c .ends2 .ensures, c .before .before .state2 .given .1)
 
 returns-7 : tie.Need-returns-7
 unfolding senderTimes
-returns-7 c = λ s file. rw (c .stays4 .ensures, c .before .enum-told5 .given .1)
+returns-7 c = λ s file. rw (c .stays2 .ensures, c .before .enum-told5 .given .1)
 
 pub times-spec : {M : Type 1} → statement M
 times-spec =
@@ -89,11 +88,11 @@ times-spec =
     enum-told-3
     aborts-requires-2
     enum-told-4
-    stays-requires-2
+    ends-requires
     enum-known-state-2
-    stays-requires-3
+    ends-requires-2
     enum-told-5
-    stays-requires-4
+    stays-requires-2
     returns
     returns-2
     returns-3

@@ -1,5 +1,5 @@
 -- Bytes have arrived. Assumes nothing.
-use mathlib.Core.Path.{_≡_, ap, sym, _∙_}
+use mathlib.Core.Path.{ap, sym, _∙_}
 use denote.Ref.{now}
 use Rattle.reader.specs.declared.Received.{Received}
 use Rattle.yapp_sender.specs.Sender.{arrived, receive}
@@ -19,8 +19,8 @@ receive-requires c κs = search needs
 
 arrived-requires : tie.Need-arrived-requires
 arrived-requires c κs =
-    let a = c .before .before .before .before .before .before .before .before .before .before .args in
-    has-room (a .self) (now (a .file)) (now (a .reply)) _ _ (c .before .before .before .before .check .ensures) (c .before .before .before .is-taken .ensures) (c .before .before .if1 .taken)
+    let a = c .before .before .before .before .before .before .before .before .before .args in
+    has-room (a .self) (now (a .file)) (now (a .reply)) _ _ (c .before .before .before .before .before .check .ensures) (c .before .before .before .before .is-taken .ensures) (c .before .before .before .if1 .taken)
 
 same-length : tie.Need-same-length
 same-length c = search needs
@@ -28,8 +28,8 @@ same-length c = search needs
 returns : tie.Need-returns
 unfolding receive
 returns c =
-    let a = c .before .before .before .before .before .before .before .before .before .before .before .before .before .args in
-    call-taken (a .self) (now (a .file)) (now (a .reply)) _ _ (c .before .before .before .before .before .before .before .check .ensures) (c .before .before .before .before .before .before .is-taken .ensures) _ _ (c .before .before .before .before .before .if1 .taken) (ap (λ (g : Received). arrived (a .self) g (now (a .reply))) (sym (c .before .before .before .before .receive .ensures)) ∙ c .before .before .arrived .ensures)
+    let a = c .before .before .before .before .before .before .before .before .before .before .before .before .args in
+    call-taken (a .self) (now (a .file)) (now (a .reply)) _ _ (c .before .before .before .before .before .before .before .before .check .ensures) (c .before .before .before .before .before .before .before .is-taken .ensures) _ _ (c .before .before .before .before .before .before .if1 .taken) (ap (λ (g : Received). arrived (a .self) g (now (a .reply))) (sym (c .before .before .before .before .receive .ensures)) ∙ c .before .before .arrived .ensures)
 
 refused-requires : tie.Need-refused-requires
 refused-requires c κs = search needs
@@ -37,7 +37,7 @@ refused-requires c κs = search needs
 returns-2 : tie.Need-returns-2
 unfolding receive
 returns-2 c =
-    let a = c .before .before .before .before .before .before .before .before .before .args in
+    let a = c .before .before .before .before .before .before .before .args in
     call-refused (a .self) (now (a .file)) (now (a .reply)) _ _ (c .before .before .before .check .ensures) (c .before .before .is-taken .ensures) _ _ (c .before .if1 .left) (c .refused .ensures)
 
 pub receive-spec : {M : Type 1} → statement M

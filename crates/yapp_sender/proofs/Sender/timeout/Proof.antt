@@ -13,6 +13,9 @@ check-requires c κs = search needs
 is-taken-requires : tie.Need-is-taken-requires
 is-taken-requires c κs = search needs
 
+state-requires : tie.Need-state-requires
+state-requires c κs = search needs
+
 checked-requires : tie.Need-checked-requires
 checked-requires c κs = search needs
 
@@ -21,8 +24,8 @@ times-requires c κs = search needs
 
 settled-requires : tie.Need-settled-requires
 settled-requires c κs =
-    let a = c .before .before .before .before .before .before .before .before .before .before .args in
-    has-room (a .self) (now (a .file)) (now (a .reply)) _ _ (c .before .before .before .before .before .check .ensures) (c .before .before .before .before .is-taken .ensures) (c .before .before .before .if1 .taken)
+    let a = c .before .before .before .before .before .before .before .before .before .args in
+    has-room (a .self) (now (a .file)) (now (a .reply)) _ _ (c .before .before .before .before .before .before .check .ensures) (c .before .before .before .before .before .is-taken .ensures) (c .before .before .before .before .if1 .taken)
 
 same-length : tie.Need-same-length
 same-length c = search needs
@@ -30,8 +33,8 @@ same-length c = search needs
 returns : tie.Need-returns
 unfolding timeout
 returns c =
-    let a = c .before .before .before .before .before .before .before .before .before .before .before .before .before .args in
-    call-settled (a .self) (now (a .file)) (now (a .reply)) _ _ (c .before .before .before .before .before .before .before .before .check .ensures) (c .before .before .before .before .before .before .before .is-taken .ensures) _ _ _ (c .before .before .before .before .before .before .if1 .taken) (c .before .before .before .before .times .ensures (settingsOf (a .self)) (now (a .file)) ∙ rw (c .before .before .before .before .before .checked .ensures)) (c .before .before .settled .ensures)
+    let a = c .before .before .before .before .before .before .before .before .before .before .before .before .args in
+    call-settled (a .self) (now (a .file)) (now (a .reply)) _ _ (c .before .before .before .before .before .before .before .before .before .check .ensures) (c .before .before .before .before .before .before .before .before .is-taken .ensures) _ _ _ (c .before .before .before .before .before .before .before .if1 .taken) (c .before .before .before .before .times .ensures (settingsOf (a .self)) (now (a .file)) ∙ rw (c .before .before .before .before .before .before .state .ensures, c .before .before .before .before .before .checked .ensures)) (c .before .before .settled .ensures)
 
 refused-requires : tie.Need-refused-requires
 refused-requires c κs = search needs
@@ -39,7 +42,7 @@ refused-requires c κs = search needs
 returns-2 : tie.Need-returns-2
 unfolding timeout
 returns-2 c =
-    let a = c .before .before .before .before .before .before .before .before .args in
+    let a = c .before .before .before .before .before .before .args in
     call-refused (a .self) (now (a .file)) (now (a .reply)) _ _ (c .before .before .before .check .ensures) (c .before .before .is-taken .ensures) _ _ (c .before .if1 .left) (c .refused .ensures)
 
 pub timeout-spec : {M : Type 1} → statement M
@@ -48,6 +51,7 @@ timeout-spec =
     (tie.spec
     check-requires
     is-taken-requires
+    state-requires
     checked-requires
     times-requires
     settled-requires
