@@ -18,13 +18,15 @@ use Rattle.calls.specs.Checks.{isTaken}
 use Rattle.calls.specs.Count.{countOf}
 use Rattle.calls.proofs.Laws.{wrote}
 use Rattle.yapp.specs.Steps.{writes, ReceiverMove, receiverTakes}
+use Rattle.yapp_receiving.specs.declared.Settings.{Settings}
+use Rattle.yapp_receiving.specs.declared.Current.{Current}
 use Rattle.yapp_receiving.specs.declared.Step.{Step}
 use Rattle.yapp_receiving.specs.declared.Out.{Out}
 use Rattle.yapp_receiving.specs.declared.Out.the-variants.{Nothing as Silent, RR, RF, RT, RE, AF, AT, CA, CN, Room, Have, Differs, One}
-use Rattle.yapp_receiving.specs.Receiving.{Reached, reached, reachedBy, contentsOf}
+use Rattle.yapp_receiving.specs.Receiving.{Reached, reached, reachedBy, settingsBy, nowBy, contentsOf}
 use Rattle.yapp_receiver.specs.declared.Receiver.{Receiver}
 use Rattle.yapp_receiver.specs.Receiver.{ReceiverAfter, refusedCall, unlessRefused, replied, settingsOf, nowOf, arrived}
-use Rattle.yapp_receiver.specs.Answers.{texts, contentIn, answerBy, replyBy}
+use Rattle.yapp_receiver.specs.Answers.{texts, contentIn, settingsIn, currentIn, answerBy, replyBy}
 
 -- ---- whether a call is taken
 
@@ -82,6 +84,13 @@ module _ (m : Receiver) (r : Reader) (taken : ℕ) (reply : List ℕ) where
   pub replied-is : (v : ReceiverMove) (s : Step) (a : List ℕ) → reached (m .name) v ≡ reachedBy (r .pending) (m .name) s a
       → replied m r taken v reply ≡ leaves m r taken s a reply
   replied-is v s a h = ap answered h
+
+-- a packet is taken with what the receiver's fields say
+pub decided : (m : Receiver) (packet : Packet) (area a p q : List ℕ) (t : Settings) (c : Current) (s : Step) → t ≡ settingsIn (m .core)
+    → c ≡ currentIn m → p ≡ q
+    → reached (m .name) (receiverTakes (settingsBy t) (nowBy c (m .name)) area (contentOf p packet)) ≡ reachedBy p (m .name) s a
+    → reached (m .name) (receiverTakes (settingsOf m) (nowOf m) area (contentOf q packet)) ≡ reachedBy q (m .name) s a
+decided m packet area a p q t c s e f g h = rw (e, f, g) at h
 
 pub arrived-is : (m : Receiver) (g h : Received) (area reply : List ℕ) (s : Step) (a : List ℕ) → g ≡ h
     → reached (m .name) (receiverTakes (settingsOf m) (nowOf m) area (contentOf (g .reader .pending) (g .packet)))

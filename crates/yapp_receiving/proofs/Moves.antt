@@ -19,14 +19,14 @@ use Rattle.calls.specs.declared.Entry.{Entry}
 use Rattle.calls.specs.declared.Keeping.{Keeping}
 use Rattle.calls.specs.declared.Keeping.the-variants.{Nothing, Of}
 use Rattle.calls.specs.declared.Outcome.{Outcome}
-use Rattle.calls.specs.declared.Outcome.the-variants.{Malformed, NoRoom, HaveFile, Differs as DiffersHere, CheckFailed, PastSize, Short}
+use Rattle.calls.specs.declared.Outcome.the-variants.{Malformed, NoRoom, HaveFile, Differs as DiffersHere, CheckFailed, PastSize, Short, TimedOut, Stopped}
 use Rattle.calls.specs.Saving.{savedBy, keepingOf, heldOf, keptOf, sizeOf, grown, nameOf, matchesOf}
 use Rattle.calls.proofs.Names.{keep-own, keep-none, keep-front}
 use Rattle.yapp.specs.declared.ReceiverState.{ReceiverState}
-use Rattle.yapp.specs.declared.ReceiverState.the-variants.{RH, CW, Ended}
+use Rattle.yapp.specs.declared.ReceiverState.the-variants.{R, RH, RD, CW, Ended}
 use Rattle.yapp.specs.Rows.{Action, nothing, abort, refused, cancelled, success, leaves, answers, sendHeader, start, startChecked, resume, sendTrailer, ready, trailer, judge, second, store, eof, receiverRow}
 use Rattle.yapp.specs.Table.{actionNumber}
-use Rattle.yapp.specs.Steps.{ReceiverSettings, ReceiverNow, ReceiverMove, goes, judgeRecord, judges, judgesParts, stores, endsFile, receiverDoes, receiverTakes}
+use Rattle.yapp.specs.Steps.{ReceiverSettings, ReceiverNow, ReceiverMove, goes, judgeRecord, judges, judgesParts, stores, endsFile, leftCW, receiverDoes, receiverTakes, receiverTimes, receiverStops}
 use Rattle.yapp.proofs.Actions.{action-same}
 use Rattle.yapp_receiving.specs.declared.Settings.{Settings}
 use Rattle.yapp_receiving.specs.declared.Current.{Current}
@@ -34,7 +34,10 @@ use Rattle.yapp_receiving.specs.declared.Step.{Step}
 use Rattle.yapp_receiving.specs.declared.Carried.{Carried}
 use Rattle.yapp_receiving.specs.declared.Out.{Out}
 use Rattle.yapp_receiving.specs.declared.Out.the-variants.{Nothing as Silent, RF, RT, RE, AF, CN, Room, Have, Differs}
-use Rattle.yapp_receiving.specs.Receiving.{Reached, reached, reachedBy, settingsBy, nowBy, partsBy, contentsOf, nowhere, stays, failsBy, refusesBy, acceptsBy, keptAt}
+use Rattle.yapp_receiving.specs.Receiving.{Reached, reached, reachedBy, settingsBy, nowBy, partsBy, contentsOf, nowhere, stays, failsBy, refusesBy, acceptsBy, keptAt, growsBy, isOpen}
+
+never : {A : Type 0} → false ≡ true → A
+never h = absurd (let z : _≡_ {A = ℕ} 0 1 = cc h in omega arith)
 
 -- ---- the record stays
 
@@ -55,10 +58,39 @@ module _ (c : Current) (name a p : List ℕ) where
       })
       (keep-own (c .keeping) name ∙ sym (keep-none name))
 
-  -- a move that goes by the state
-  pub goes-by : (F : ReceiverState → ReceiverMove) (st to : ReceiverState) (out : Out) (s : Step) → c .state ≡ st
-      → F st ≡ goes N a to (contentsOf (c .checked) out) → s ≡ stays c name to out → reached name (F (c .state)) ≡ reachedBy p name s a
-  goes-by F st to out s e f g = ap (λ (x : ReceiverState). reached name (F x)) e ∙ ap (reached name) f ∙ goes-is to out ∙ ap (λ (x : Step). reachedBy p name x a) (sym g)
+  -- the timer
+  pub times-open : (st : ReceiverState) → isOpen st ≡ true → reached name (receiverTimes N a st) ≡ reachedBy p name (failsBy c name TimedOut) a
+  unfolding receiverTimes
+  times-open R h = goes-is (CW TimedOut) CN
+  times-open (RH whole) h = goes-is (CW TimedOut) CN
+  times-open RD h = goes-is (CW TimedOut) CN
+  times-open (CW o) h = never h
+  times-open (Ended o) h = never h
+
+  pub times-rest : (st : ReceiverState) → isOpen st ≡ false → reached name (receiverTimes N a st) ≡ reachedBy p name (stays c name (leftCW st) Silent) a
+  unfolding receiverTimes
+  times-rest R h = never (sym h)
+  times-rest (RH whole) h = never (sym h)
+  times-rest RD h = never (sym h)
+  times-rest (CW o) h = goes-is (Ended o) Silent
+  times-rest (Ended o) h = goes-is (Ended o) Silent
+
+  -- the operator's stop
+  pub stops-open : (st : ReceiverState) → isOpen st ≡ true → reached name (receiverStops N a st) ≡ reachedBy p name (failsBy c name Stopped) a
+  unfolding receiverStops
+  stops-open R h = goes-is (CW Stopped) CN
+  stops-open (RH whole) h = goes-is (CW Stopped) CN
+  stops-open RD h = goes-is (CW Stopped) CN
+  stops-open (CW o) h = never h
+  stops-open (Ended o) h = never h
+
+  pub stops-rest : (st : ReceiverState) → isOpen st ≡ false → reached name (receiverStops N a st) ≡ reachedBy p name (stays c name st Silent) a
+  unfolding receiverStops
+  stops-rest R h = never (sym h)
+  stops-rest (RH whole) h = never (sym h)
+  stops-rest RD h = never (sym h)
+  stops-rest (CW o) h = goes-is (CW o) Silent
+  stops-rest (Ended o) h = goes-is (Ended o) Silent
 
   -- EF
   pub ends-whole : keptOf (savedBy (c .keeping) name) ≡ sizeOf (savedBy (c .keeping) name)
@@ -81,9 +113,6 @@ module _ (c : Current) (name a p : List ℕ) where
   unfolding stores
   stores-past d h = rw (lt-leb (keptOf (savedBy (c .keeping) name) + length d) (sizeOf (savedBy (c .keeping) name)) h) (goes-is (CW PastSize) CN)
 
-  abbrev storesBy : ℕ → Keeping → Step
-  storesBy n k = record { state = c .state; checked = c .checked; keeping = k; out = Silent; stored = n; name = nowhere }
-
   grown-kept : (k : Keeping) (n : ℕ) → keepingOf (grown (savedBy k name) n) ≡ keptAt (heldOf k name) (keptOf (savedBy k name) + n)
   grown-kept Nothing n = refl
   grown-kept (Of e) n = refl
@@ -94,8 +123,7 @@ module _ (c : Current) (name a p : List ℕ) where
 
   pub stores-within : (d : List ℕ) → keptOf (savedBy (c .keeping) name) + length d ≤ sizeOf (savedBy (c .keeping) name)
       → reached name (stores N a d true)
-      ≡ reachedBy p name (storesBy (length d) (keptAt (heldOf (c .keeping) name) (keptOf (savedBy (c .keeping) name) + length d)))
-      (appended (keptOf (savedBy (c .keeping) name)) d a)
+      ≡ reachedBy p name (growsBy c name (keptOf (savedBy (c .keeping) name) + length d) (length d)) (appended (keptOf (savedBy (c .keeping) name)) d a)
   unfolding stores
   stores-within d h =
       rw (le-leb (keptOf (savedBy (c .keeping) name) + length d) (sizeOf (savedBy (c .keeping) name)) h, grown-kept (c .keeping) (length d), grown-name (c .keeping) (length d))

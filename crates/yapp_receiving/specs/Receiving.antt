@@ -1,7 +1,7 @@
 -- What the code's types stand for in the definitions of `yapp`: a step is a move of the receiver, its record as the struct holds it and a
 -- new name by its place in the pending bytes.
 use Prim.Native.Nat.{ℕ}
-use mathlib.Core.Bool.{Bool, false}
+use mathlib.Core.Bool.{Bool, true, false}
 use mathlib.Core.List.{List, [], _∷_}
 use lib.ListN.{length}
 use mathlib.Core.Path.{_≡_}
@@ -16,7 +16,7 @@ use Rattle.calls.specs.declared.Keeping.the-variants.{Nothing, Of}
 use Rattle.calls.specs.declared.Outcome.{Outcome}
 use Rattle.calls.specs.Saving.{savedBy, keepingOf, heldOf, nameOf}
 use Rattle.yapp.specs.declared.ReceiverState.{ReceiverState}
-use Rattle.yapp.specs.declared.ReceiverState.the-variants.{RD, CW, Ended}
+use Rattle.yapp.specs.declared.ReceiverState.the-variants.{R, RH, RD, CW, Ended}
 use Rattle.yapp.specs.Rows.{Action}
 use Rattle.yapp.specs.Table.{actionNumber}
 use Rattle.yapp.specs.Steps.{ReceiverSettings, ReceiverNow, ReceiverMove, receiverDoes, roomText, haveText, differsText, oneText}
@@ -125,6 +125,25 @@ acceptsBy checked kept h p out = record {
 abbrev pub keptAt : Keeping → ℕ → Keeping
 keptAt Nothing n = Nothing
 keptAt (Of e) n = Of (record { named = e .named; size = e .size; kept = n; stamp = e .stamp })
+
+-- so many bytes are kept, n of them stored just now
+abbrev pub growsBy : Current → List ℕ → ℕ → ℕ → Step
+growsBy c name kept n = record {
+  state = c .state;
+  checked = c .checked;
+  keeping = keptAt (heldOf (c .keeping) name) kept;
+  out = Silent;
+  stored = n;
+  name = nowhere;
+}
+
+-- neither in CW nor ended
+abbrev pub isOpen : ReceiverState → Bool
+isOpen R = true
+isOpen (RH whole) = true
+isOpen RD = true
+isOpen (CW o) = false
+isOpen (Ended o) = false
 
 -- the step is that of every action with the number n, but for a header judged (14) and a block stored (16)
 abbrev pub Acts : Current → List ℕ → ℕ → Step → Type 0

@@ -20,7 +20,7 @@ ghost use Rattle.packets.specs.Content.{contentOf};
 ghost use Rattle.packets.specs.Kind.{partsOf};
 ghost use Rattle.calls.specs.Saving.{savedBy, keptOf, sizeOf};
 ghost use Rattle.yapp.specs.Steps.{leftCW, judgeRecord, judges, judgesParts, stores, endsFile, receiverTakes, receiverTimes, receiverStops};
-ghost use Rattle.yapp_receiving.specs.Receiving.{settingsBy, nowBy, partsBy, reached, reachedBy, nothingCarried, textCarried, stays, failsBy, refusesBy, acceptsBy, keptAt, Acts};
+ghost use Rattle.yapp_receiving.specs.Receiving.{settingsBy, nowBy, partsBy, reached, reachedBy, nothingCarried, textCarried, stays, failsBy, refusesBy, acceptsBy, keptAt, growsBy, isOpen, Acts};
 
 // What is sent.
 pub enum Out {
@@ -335,8 +335,8 @@ fn judge(
     fail(current, name, Outcome::Malformed)
 }
 
-fn kept_of(keeping: Keeping, name: &[u8]) -> u32
-    ensures { λ r. ⌜ r ≡ keptOf (savedBy keeping (now (name .entry))) ⌝ }
+fn kept_of(keeping: Keeping) -> u32
+    ensures { λ r. ⌜ ((name : List ℕ) → r ≡ keptOf (savedBy keeping name)) ⌝ }
 {
     match keeping {
         Keeping::Nothing => 0,
@@ -344,8 +344,8 @@ fn kept_of(keeping: Keeping, name: &[u8]) -> u32
     }
 }
 
-fn size_of(keeping: Keeping, name: &[u8]) -> u32
-    ensures { λ r. ⌜ r ≡ sizeOf (savedBy keeping (now (name .entry))) ⌝ }
+fn size_of(keeping: Keeping) -> u32
+    ensures { λ r. ⌜ ((name : List ℕ) → r ≡ sizeOf (savedBy keeping name)) ⌝ }
 {
     match keeping {
         Keeping::Nothing => 0,
@@ -371,24 +371,14 @@ fn keep_at(keeping: Keeping, kept: u32) -> Keeping
     }
 }
 
-// The data are stored directly behind the kept bytes and count as kept in the same step; past the announced size is 12.
-fn store(current: Current, name: &[u8], bytes: &[u8], area: &mut [u8]) -> Step
-    ensures { λ r. ⌜ ((p : List ℕ) → reached (now (name .entry)) (stores (nowBy current (now (name .entry))) (now (area .entry)) (now (bytes .entry)) true) ≡ reachedBy p (now (name .entry)) r (now (area .exit))) ⌝ }
+// The step that keeps so many bytes, n of them stored just now.
+fn grow(current: Current, name: &[u8], kept: u32, n: usize) -> Step
+    ensures { λ r. ⌜ r ≡ growsBy current (now (name .entry)) kept n ⌝ }
 {
     let state = current.state;
     let keeping = current.keeping;
-    let kept = kept_of(keeping, name);
-    let size = size_of(keeping, name);
-    let n = bytes.len();
-    if size < kept {
-        return fail(current, name, Outcome::PastSize);
-    }
-    if ((size - kept) as usize) < n {
-        return fail(current, name, Outcome::PastSize);
-    }
-    fields::append_bytes(area, kept as usize, bytes);
     let held = calls::held(keeping, name);
-    let grown = keep_at(held, kept + n as u32);
+    let grown = keep_at(held, kept);
     let place = Place { start: 0, len: 0 };
     Step {
         state,
@@ -398,6 +388,24 @@ fn store(current: Current, name: &[u8], bytes: &[u8], area: &mut [u8]) -> Step
         stored: n,
         name: place,
     }
+}
+
+// The data are stored directly behind the kept bytes and count as kept in the same step; past the announced size is 12.
+fn store(current: Current, name: &[u8], bytes: &[u8], area: &mut [u8]) -> Step
+    ensures { λ r. ⌜ ((p : List ℕ) → reached (now (name .entry)) (stores (nowBy current (now (name .entry))) (now (area .entry)) (now (bytes .entry)) true) ≡ reachedBy p (now (name .entry)) r (now (area .exit))) ⌝ }
+{
+    let keeping = current.keeping;
+    let kept = kept_of(keeping);
+    let size = size_of(keeping);
+    let n = bytes.len();
+    if size < kept {
+        return fail(current, name, Outcome::PastSize);
+    }
+    if ((size - kept) as usize) < n {
+        return fail(current, name, Outcome::PastSize);
+    }
+    fields::append_bytes(area, kept as usize, bytes);
+    grow(current, name, kept + n as u32, n)
 }
 
 // A DT; a bad checksum is 11, judged first.
@@ -422,8 +430,8 @@ fn end_file(current: Current, name: &[u8]) -> Step
     ensures { λ r. ⌜ ((a p : List ℕ) → reached (now (name .entry)) (endsFile (nowBy current (now (name .entry))) a) ≡ reachedBy p (now (name .entry)) r a) ⌝ }
 {
     let keeping = current.keeping;
-    let kept = kept_of(keeping, name);
-    let size = size_of(keeping, name);
+    let kept = kept_of(keeping);
+    let size = size_of(keeping);
     if kept == size {
         return stay(current, name, ReceiverState::RH { whole: true }, Out::AF);
     }
@@ -484,18 +492,28 @@ pub fn take(
     }
 }
 
+// Whether the receiver is neither in CW nor at its end.
+fn is_open(state: ReceiverState) -> bool
+    ensures { λ r. ⌜ r ≡ isOpen state ⌝ }
+{
+    match state {
+        ReceiverState::R => true,
+        ReceiverState::RH { whole: _ } => true,
+        ReceiverState::RD => true,
+        ReceiverState::CW { outcome: _ } => false,
+        ReceiverState::Ended { outcome: _ } => false,
+    }
+}
+
 // The timer has run out.
 pub fn time_out(current: Current, name: &[u8]) -> Step
     ensures { λ r. ⌜ ((a p : List ℕ) → reached (now (name .entry)) (receiverTimes (nowBy current (now (name .entry))) a (current .state)) ≡ reachedBy p (now (name .entry)) r a) ⌝ }
 {
     let state = current.state;
-    match state {
-        ReceiverState::R => fail(current, name, Outcome::TimedOut),
-        ReceiverState::RH { whole: _ } => fail(current, name, Outcome::TimedOut),
-        ReceiverState::RD => fail(current, name, Outcome::TimedOut),
-        ReceiverState::CW { outcome } => refuse(current, name, outcome, Out::Nothing),
-        ReceiverState::Ended { outcome } => refuse(current, name, outcome, Out::Nothing),
+    if is_open(state) {
+        return fail(current, name, Outcome::TimedOut);
     }
+    stay(current, name, leave(state), Out::Nothing)
 }
 
 // The operator's stop.
@@ -503,16 +521,8 @@ pub fn stop(current: Current, name: &[u8]) -> Step
     ensures { λ r. ⌜ ((a p : List ℕ) → reached (now (name .entry)) (receiverStops (nowBy current (now (name .entry))) a (current .state)) ≡ reachedBy p (now (name .entry)) r a) ⌝ }
 {
     let state = current.state;
-    match state {
-        ReceiverState::R => fail(current, name, Outcome::Stopped),
-        ReceiverState::RH { whole: _ } => fail(current, name, Outcome::Stopped),
-        ReceiverState::RD => fail(current, name, Outcome::Stopped),
-        ReceiverState::CW { outcome } => stay(
-            current,
-            name,
-            ReceiverState::CW { outcome },
-            Out::Nothing,
-        ),
-        ReceiverState::Ended { outcome } => refuse(current, name, outcome, Out::Nothing),
+    if is_open(state) {
+        return fail(current, name, Outcome::Stopped);
     }
+    stay(current, name, state, Out::Nothing)
 }

@@ -1,4 +1,6 @@
 -- `decide` hands over the receiver's fields and the pending bytes. Assumes nothing.
+use Rattle.yapp_receiver.proofs.Answering.{decided}
+use denote.Ref.{now}
 use borrow.Author.Needs.{needs}
 use Rattle.yapp_receiver.proofs.decide.Statement.{statement}
 use Rattle.yapp_receiver.proofs.decide.Tie as tie
@@ -25,7 +27,10 @@ same-length : tie.Need-same-length
 same-length c = search needs
 
 returns : tie.Need-returns
-returns c = rw (c .before .before .before .before .before .before .current-of .ensures, c .before .before .before .before .before .before .before .settings-of .ensures, c .before .before .before .before .before .before .before .before .pending .ensures) at (c .before .before .take .ensures)
+returns c =
+    let g = c .before .before .before .before .before .before .before .before .before .before .before .before .args in
+    decided (g .m) (g .packet) (now (g .area)) _ (c .before .before .before .before .before .before .before .before .pending .result) (g .found .pending) (c .before .before .before .before .before .before .before .settings-of .result) (c .before .before .before .before .before .before .current-of .result) (c .before .before .take .result)
+    (c .before .before .before .before .before .before .before .settings-of .ensures) (c .before .before .before .before .before .before .current-of .ensures) (c .before .before .before .before .before .before .before .before .pending .ensures) (c .before .before .take .ensures)
 
 pub decide-spec : {M : Type 1} → statement M
 decide-spec =

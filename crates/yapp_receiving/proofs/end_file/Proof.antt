@@ -18,7 +18,7 @@ stay-requires c κs = search needs
 returns : tie.Need-returns
 returns c a p =
     let g = c .before .before .before .before .before .args in
-    rw (c .stay .ensures) (ends-whole (g .current) (now (g .name)) a p (sym (c .before .before .before .kept-of .ensures) ∙ c .before .if1 .taken ∙ c .before .before .size-of .ensures))
+    rw (c .stay .ensures) (ends-whole (g .current) (now (g .name)) a p (sym (c .before .before .before .kept-of .ensures (now (g .name))) ∙ c .before .if1 .taken ∙ c .before .before .size-of .ensures (now (g .name))))
 
 fail-requires : tie.Need-fail-requires
 fail-requires c κs = search needs
@@ -26,7 +26,7 @@ fail-requires c κs = search needs
 returns-2 : tie.Need-returns-2
 returns-2 c a p =
     let g = c .before .before .before .before .before .args in
-    rw (c .fail .ensures) (ends-short (g .current) (now (g .name)) a p (λ e. c .before .if1 .left (c .before .before .before .kept-of .ensures ∙ e ∙ sym (c .before .before .size-of .ensures))))
+    rw (c .fail .ensures) (ends-short (g .current) (now (g .name)) a p (λ e. c .before .if1 .left (c .before .before .before .kept-of .ensures (now (g .name)) ∙ e ∙ sym (c .before .before .size-of .ensures (now (g .name))))))
 
 pub end-file-spec : {M : Type 1} → statement M
 end-file-spec =

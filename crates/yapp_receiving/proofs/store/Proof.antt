@@ -19,7 +19,7 @@ returns : tie.Need-returns
 returns c p =
     let g = c .before .before .before .before .before .before .before .args in
     rw (c .fail .ensures)
-    (stores-past (g .current) (now (g .name)) (now (g .area)) p (now (g .bytes)) (rw (← c .before .before .before .kept-of .ensures, ← c .before .before .size-of .ensures) (omega arith)))
+    (stores-past (g .current) (now (g .name)) (now (g .area)) p (now (g .bytes)) (rw (← c .before .before .before .kept-of .ensures (now (g .name)), ← c .before .before .size-of .ensures (now (g .name))) (omega arith)))
 
 cast-if2 : tie.Need-cast-if2
 cast-if2 c = search needs
@@ -31,7 +31,7 @@ returns-2 : tie.Need-returns-2
 returns-2 c p =
     let g = c .before .before .before .before .before .before .before .before .args in
     rw (c .fail2 .ensures)
-    (stores-past (g .current) (now (g .name)) (now (g .area)) p (now (g .bytes)) (rw (← c .before .before .before .before .kept-of .ensures, ← c .before .before .before .size-of .ensures) (omega arith)))
+    (stores-past (g .current) (now (g .name)) (now (g .area)) p (now (g .bytes)) (rw (← c .before .before .before .before .kept-of .ensures (now (g .name)), ← c .before .before .before .size-of .ensures (now (g .name))) (omega arith)))
 
 cast-append-bytes : tie.Need-cast-append-bytes
 cast-append-bytes c = search needs
@@ -39,26 +39,23 @@ cast-append-bytes c = search needs
 append-bytes-requires : tie.Need-append-bytes-requires
 append-bytes-requires c κs = search needs
 
-held-requires : tie.Need-held-requires
-held-requires c κs = search needs
+cast-grow : tie.Need-cast-grow
+cast-grow c = search needs
 
-cast-keep-at : tie.Need-cast-keep-at
-cast-keep-at c = search needs
+add-grow : tie.Need-add-grow
+add-grow c = search needs
 
-add-keep-at : tie.Need-add-keep-at
-add-keep-at c = search needs
-
-keep-at-requires : tie.Need-keep-at-requires
-keep-at-requires c κs = search needs
+grow-requires : tie.Need-grow-requires
+grow-requires c κs = search needs
 
 same-length : tie.Need-same-length
 same-length c = search needs
 
 returns-3 : tie.Need-returns-3
 returns-3 c p =
-    let g = c .before .before .before .before .before .before .before .before .before .before .before .before .before .args in
-    rw (c .keep-at .ensures, c .before .held .ensures, c .before .before .before .before .append-bytes .ensures .1, c .before .before .before .before .before .before .before .before .before .kept-of .ensures)
-    (stores-within (g .current) (now (g .name)) (now (g .area)) p (now (g .bytes)) (rw (← c .before .before .before .before .before .before .before .before .before .kept-of .ensures, ← c .before .before .before .before .before .before .before .before .size-of .ensures) (omega arith)))
+    let g = c .before .before .before .before .before .before .before .before .before .before .before .before .args in
+    rw (c .grow .ensures, c .before .before .before .append-bytes .ensures .1, c .before .before .before .before .before .before .before .before .kept-of .ensures (now (g .name)))
+    (stores-within (g .current) (now (g .name)) (now (g .area)) p (now (g .bytes)) (rw (← c .before .before .before .before .before .before .before .before .kept-of .ensures (now (g .name)), ← c .before .before .before .before .before .before .before .size-of .ensures (now (g .name))) (omega arith)))
 
 pub store-spec : {M : Type 1} → statement M
 store-spec =
@@ -73,9 +70,8 @@ store-spec =
     returns-2
     cast-append-bytes
     append-bytes-requires
-    held-requires
-    cast-keep-at
-    add-keep-at
-    keep-at-requires
+    cast-grow
+    add-grow
+    grow-requires
     same-length
     returns-3)
