@@ -274,11 +274,15 @@ fn stops(state: SenderState, checked: bool) -> Step
     match state {
         SenderState::S { .. } => aborts(Outcome::Stopped, checked),
         SenderState::SH => aborts(Outcome::Stopped, checked),
-        SenderState::SD { at: _ } => aborts(Outcome::Stopped, checked),
+        SenderState::SD { .. } => aborts(Outcome::Stopped, checked),
         SenderState::SE => aborts(Outcome::Stopped, checked),
         SenderState::ST => aborts(Outcome::Stopped, checked),
-        SenderState::CW { outcome: _ } => stays(state, checked),
-        SenderState::Ended { outcome: _ } => stays(state, checked),
+        SenderState::CW { .. } => Step {
+            state,
+            checked,
+            out: Out::Nothing,
+        },
+        SenderState::Ended { .. } => stays(state, checked),
     }
 }
 

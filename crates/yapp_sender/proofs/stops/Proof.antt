@@ -37,14 +37,11 @@ aborts-requires-5 c κs = search needs
 enum-told-6 : tie.Need-enum-told-6
 enum-told-6 c = search needs
 
-stays-requires : tie.Need-stays-requires
-stays-requires c κs = search needs
-
 enum-told-7 : tie.Need-enum-told-7
 enum-told-7 c = search needs
 
-stays-requires-2 : tie.Need-stays-requires-2
-stays-requires-2 c κs = search needs
+stays-requires : tie.Need-stays-requires
+stays-requires c κs = search needs
 
 returns : tie.Need-returns
 unfolding senderStops
@@ -68,11 +65,11 @@ returns-5 c = λ s file. rw (c .aborts5 .ensures, c .before .enum-told5 .given .
 
 returns-6 : tie.Need-returns-6
 unfolding senderStops
-returns-6 c = λ s file. rw (c .stays .ensures, c .before .enum-told6 .given .1)
+returns-6 c = λ s file. rw (c .enum-told6 .given .1)
 
 returns-7 : tie.Need-returns-7
 unfolding senderStops
-returns-7 c = λ s file. rw (c .stays2 .ensures, c .before .enum-told7 .given .1)
+returns-7 c = λ s file. rw (c .stays .ensures, c .before .enum-told7 .given .1)
 
 pub stops-spec : {M : Type 1} → statement M
 stops-spec =
@@ -89,9 +86,8 @@ stops-spec =
     enum-told-5
     aborts-requires-5
     enum-told-6
-    stays-requires
     enum-told-7
-    stays-requires-2
+    stays-requires
     returns
     returns-2
     returns-3
