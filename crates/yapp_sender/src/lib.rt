@@ -420,13 +420,6 @@ fn count(written: Written) -> usize
     }
 }
 
-// Where there is no text.
-fn no_place() -> Place
-    ensures { λ r. ⌜ r ≡ nowhere ⌝ }
-{
-    Place { start: 0, len: 0 }
-}
-
 // The packet of a signal.
 fn packet_by(signal: Signal) -> Packet
     ensures { λ r. ⌜ ((bytes : List ℕ) → contentOf bytes r ≡ signalOf signal) ⌝ }
@@ -436,7 +429,7 @@ fn packet_by(signal: Signal) -> Packet
         Signal::EF => Packet::EF,
         Signal::ET => Packet::ET,
         Signal::CA => Packet::CA,
-        Signal::CN => Packet::CN(no_place()),
+        Signal::CN => Packet::CN(Place { start: 0, len: 0 }),
     }
 }
 
@@ -537,7 +530,8 @@ fn settled(m: Sender, step: Step, file: &[u8], reply: &mut [u8]) -> SenderAnswer
     ensures { λ r. ⌜ replied m (m .reader) 0 nowhere (moveOf (settingsOf m) (now (file .entry)) step) (now (reply .entry)) ≡ record { answer = r; reply = now (reply .exit) } ⌝ }
 {
     let reader = m.reader;
-    answered(m, reader, 0, no_place(), step, file, reply)
+    let nothing = Place { start: 0, len: 0 };
+    answered(m, reader, 0, nothing, step, file, reply)
 }
 
 // ---- Text to show
@@ -584,9 +578,9 @@ fn shown_in(state: SenderState, kind: usize, got: Received) -> Place
             let found = got.found;
             return text_place(reader, found);
         }
-        return no_place();
+        return Place { start: 0, len: 0 };
     }
-    no_place()
+    Place { start: 0, len: 0 }
 }
 
 // ---- The calls
@@ -619,7 +613,7 @@ fn refused(sender: Sender, status: Status) -> SenderAnswer
         status,
         taken: 0,
         sent: 0,
-        shown: no_place(),
+        shown: Place { start: 0, len: 0 },
     }
 }
 

@@ -19,9 +19,6 @@ enum-told-4 c = search needs
 enum-told-5 : tie.Need-enum-told-5
 enum-told-5 c = search needs
 
-no-place-requires : tie.Need-no-place-requires
-no-place-requires c κs = search needs
-
 returns : tie.Need-returns
 unfolding contentOf
 returns c = λ bytes. rw (c .enum-told .given .1)
@@ -40,7 +37,7 @@ returns-4 c = λ bytes. rw (c .enum-told4 .given .1)
 
 returns-5 : tie.Need-returns-5
 unfolding contentOf
-returns-5 c = λ bytes. rw (c .no-place .ensures, c .before .enum-told5 .given .1)
+returns-5 c = λ bytes. rw (c .enum-told5 .given .1)
 
 pub packet-by-spec : {M : Type 1} → statement M
 packet-by-spec =
@@ -51,7 +48,6 @@ packet-by-spec =
     enum-told-3
     enum-told-4
     enum-told-5
-    no-place-requires
     returns
     returns-2
     returns-3

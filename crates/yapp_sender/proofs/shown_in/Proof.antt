@@ -19,32 +19,17 @@ returns c =
     let e : isSD (a .state) ≡ true = sym (c .before .before .before .before .is-sd .ensures) ∙ c .before .before .before .if1 .taken in
     c .text-place .ensures ∙ rw (e, c .before .before .if2 .taken)
 
-no-place-requires : tie.Need-no-place-requires
-no-place-requires c κs = search needs
-
 returns-2 : tie.Need-returns-2
 returns-2 c =
-    let a = c .before .before .before .before .args in
-    let e : isSD (a .state) ≡ true = sym (c .before .before .before .is-sd .ensures) ∙ c .before .before .if1 .taken in
-    c .no-place .ensures ∙ rw (e, ne-eqb _ _ (c .before .if2 .left))
-
-no-place-requires-2 : tie.Need-no-place-requires-2
-no-place-requires-2 c κs = search needs
+    let a = c .before .before .before .args in
+    let e : isSD (a .state) ≡ true = sym (c .before .before .is-sd .ensures) ∙ c .before .if1 .taken in
+    rw (e, ne-eqb _ _ (c .if2 .left))
 
 returns-3 : tie.Need-returns-3
 returns-3 c =
-    let a = c .before .before .before .args in
-    let e : isSD (a .state) ≡ false = sym (c .before .before .is-sd .ensures) ∙ c .before .if1 .left in
-    c .no-place2 .ensures ∙ rw e
+    let a = c .before .before .args in
+    let e : isSD (a .state) ≡ false = sym (c .before .is-sd .ensures) ∙ c .if1 .left in
+    rw e
 
 pub shown-in-spec : {M : Type 1} → statement M
-shown-in-spec =
-    tie.close
-    (tie.spec
-    is-sd-requires
-    text-place-requires
-    returns
-    no-place-requires
-    returns-2
-    no-place-requires-2
-    returns-3)
+shown-in-spec = tie.close (tie.spec is-sd-requires text-place-requires returns returns-2 returns-3)
