@@ -226,12 +226,12 @@ fn leaves(state: SenderState, checked: bool, block: usize, file: &[u8]) -> Step
 {
     match state {
         SenderState::S { begun, timeouts } => announces(begun, timeouts, checked),
-        SenderState::SH => stays(state, checked),
         SenderState::SD { at } => sends_block(block, file, at, checked),
-        SenderState::SE => stays(state, checked),
-        SenderState::ST => stays(state, checked),
-        SenderState::CW { outcome: _ } => stays(state, checked),
-        SenderState::Ended { outcome: _ } => stays(state, checked),
+        SenderState::SH
+        | SenderState::SE
+        | SenderState::ST
+        | SenderState::CW { .. }
+        | SenderState::Ended { .. } => stays(state, checked),
     }
 }
 
@@ -258,12 +258,10 @@ fn times(state: SenderState, checked: bool) -> Step
 {
     match state {
         SenderState::S { begun, timeouts } => repeats(begun, timeouts, checked),
-        SenderState::SH => aborts(Outcome::TimedOut, checked),
-        SenderState::SD { at: _ } => stays(state, checked),
-        SenderState::SE => aborts(Outcome::TimedOut, checked),
+        SenderState::SH | SenderState::SE => aborts(Outcome::TimedOut, checked),
         SenderState::ST => ends(Outcome::Success, checked),
         SenderState::CW { outcome } => ends(outcome, checked),
-        SenderState::Ended { outcome: _ } => stays(state, checked),
+        SenderState::SD { .. } | SenderState::Ended { .. } => stays(state, checked),
     }
 }
 
@@ -272,17 +270,16 @@ fn stops(state: SenderState, checked: bool) -> Step
     ensures { λ r. ⌜ ((s : SenderSettings) (file : List ℕ) → moveOf s file r ≡ senderStops state checked) ⌝ }
 {
     match state {
-        SenderState::S { .. } => aborts(Outcome::Stopped, checked),
-        SenderState::SH => aborts(Outcome::Stopped, checked),
-        SenderState::SD { .. } => aborts(Outcome::Stopped, checked),
-        SenderState::SE => aborts(Outcome::Stopped, checked),
-        SenderState::ST => aborts(Outcome::Stopped, checked),
-        SenderState::CW { .. } => Step {
+        SenderState::CW { .. } | SenderState::Ended { .. } => Step {
             state,
             checked,
             out: Out::Nothing,
         },
-        SenderState::Ended { .. } => stays(state, checked),
+        SenderState::S { .. }
+        | SenderState::SH
+        | SenderState::SD { .. }
+        | SenderState::SE
+        | SenderState::ST => aborts(Outcome::Stopped, checked),
     }
 }
 
