@@ -21,6 +21,7 @@ use Rattle.numbers.proofs.Writing.{hex-length}
 use Rattle.numbers.proofs.RoundTrip.{decimal-length}
 use Rattle.fields.proofs.Buffer.{set-over, append-fits, append-part, length-over, Grown, grown-none, grown}
 use Rattle.packets.specs.Packet.{resumeRead, checksum}
+use Rattle.writer.specs.Front.{front}
 use Rattle.packets.specs.Content.{countedForm, stampData, stampFits, headerData, headerForm, blockForm, isAsked, refusalForm, resumeData, resumeForm, requestForm}
 
 -- ---- what is laid into the buffer
@@ -54,6 +55,9 @@ before n v bs d e h q =
 pub leads : (a l : ℕ) (bs d e : List ℕ) → 2 + length bs ≤ length d → e ≡ over 2 bs d → set (set e 1 l) 0 a ≡ over 0 (a ∷ l ∷ bs) d
 leads a l bs d e h q = before 0 a (l ∷ bs) d (set e 1 l) (omega arith) (before 1 l bs d e h q)
 
+pub laid-grown : {a d e : List ℕ} {n : ℕ} → (n ≡ length a) × (e ≡ over 0 a d) → Grown a d e n
+laid-grown q = record { bytes = q .1; count = q .0 }
+
 -- bs and 00 behind the bytes that are laid down
 pub closed : {a d e : List ℕ} {n : ℕ} → Grown a d e n → (bs e₁ e₂ : List ℕ) (r₁ r₂ : ℕ) → length a + length bs < length d
     → (r₁ ≡ appendedEnd n bs e) × (e₁ ≡ appended n bs e)
@@ -63,10 +67,6 @@ closed {a} g bs e₁ e₂ r₁ r₂ h p q =
     let x = grown g bs e₁ r₁ (omega (arith, g .count)) p in
     let l = length-append a bs in
     rw append-assoc at (grown x (0 ∷ []) e₂ r₂ (omega (arith, x .count)) q)
-
--- a 00 n 00: so begin the data of HD, where a is the name, and of RE, where it is `R`
-abbrev pub front : List ℕ → ℕ → List ℕ
-front a n = (a ++ (0 ∷ [])) ++ (decimal n ++ (0 ∷ []))
 
 pub front-short : (a : List ℕ) (n : ℕ) → n ≤ 99999999 → length (front a n) ≤ length a + 10
 front-short a n h = let l = decimal-length 7 n (omega arith) (omega arith) in simp length-append (omega arith)

@@ -1,2 +1,3 @@
 -- Laws of the forms of packets.
 pub mod Forms
+pub mod Codes

@@ -5,31 +5,14 @@ use denote.Ref.{now}
 use borrow.Author.Tests.{le-leb}
 use Rattle.numbers.specs.Writing.{hex}
 use Rattle.numbers.proofs.Writing.{hex-length}
-use Rattle.fields.proofs.Buffer.{Grown, grown-is}
-use Rattle.writer.proofs.Forms.{closed, front, front-short, fronted, header-stamp, header-plain}
+use Rattle.fields.proofs.Buffer.{grown-is}
+use Rattle.writer.proofs.Forms.{closed, laid-grown, front-short, header-stamp, header-plain}
 use borrow.Author.Needs.{needs}
 use Rattle.writer.proofs.put_header.Statement.{statement}
 use Rattle.writer.proofs.put_header.Tie as tie
 
--- the room before the option
-fronts : (c : tie.After-append-byte2) → Grown (front (now (c .before .before .before .before .before .before .before .before .before .before .before .before .before .before .before .before .args .name)) (c .before .before .before .before .before .before .before .before .before .before .before .before .before .before .before .before .args .size)) (now (c .before .before .before .before .before .before .before .before .before .before .before .before .before .before .before .before .args .room)) (c .append-byte2 .last .0) (c .append-byte2 .result)
-fronts c =
-    let a = c .before .before .before .before .before .before .before .before .before .before .before .before .before .before .before .before .args in
-    let pre = c .before .before .before .before .before .before .before .before .before .before .before .before .before .before .before .before .pre in
-    fronted (now (a .name)) (a .size) (now (a .room)) _ _ _ (c .append-byte2 .last .0) _ _ _ (c .append-byte2 .result) (pre .0) (pre .1) (pre .2)
-    (c .before .before .before .before .before .before .before .before .before .before .before .before .append-bytes .ensures) (c .before .before .before .before .before .before .before .before .append-byte .ensures) (c .before .before .before .before .append-decimal .ensures) (c .append-byte2 .ensures)
-
-append-bytes-requires : tie.Need-append-bytes-requires
-append-bytes-requires c κs = search needs
-
-append-byte-requires : tie.Need-append-byte-requires
-append-byte-requires c κs = search needs
-
-append-decimal-requires : tie.Need-append-decimal-requires
-append-decimal-requires c κs = search needs
-
-append-byte-requires-2 : tie.Need-append-byte-requires-2
-append-byte-requires-2 c κs = search needs
+put-front-requires : tie.Need-put-front-requires
+put-front-requires c κs = search needs
 
 enum-known-stamp : tie.Need-enum-known-stamp
 enum-known-stamp c = search needs
@@ -37,8 +20,8 @@ enum-known-stamp c = search needs
 append-hex-requires : tie.Need-append-hex-requires
 append-hex-requires c κs = search needs
 
-append-byte-requires-3 : tie.Need-append-byte-requires-3
-append-byte-requires-3 c κs = search needs
+append-byte-requires : tie.Need-append-byte-requires
+append-byte-requires c κs = search needs
 
 enum-told : tie.Need-enum-told
 enum-told c = search needs
@@ -48,14 +31,14 @@ same-length c = search needs
 
 returns : tie.Need-returns
 returns c =
-    let a = c .before .before .before .before .before .before .before .before .before .before .before .before .before .before .before .before .before .before .before .before .before .before .before .before .before .before .before .before .before .args in
-    let pre = c .before .before .before .before .before .before .before .before .before .before .before .before .before .before .before .before .before .before .before .before .before .before .before .before .before .before .before .before .before .pre in
+    let a = c .before .before .before .before .before .before .before .before .before .before .before .before .before .before .before .before .before .args in
+    let pre = c .before .before .before .before .before .before .before .before .before .before .before .before .before .before .before .before .before .pre in
     let s = c .before .before .before .before .before .before .before .before .before .stamp .given in
     let x = c .before .before .before .before .before .before .append-hex in
-    let y = c .before .before .append-byte3 in
+    let y = c .before .before .append-byte in
     let b = front-short (now (a .name)) (a .size) (pre .1) in
     let l = hex-length 8 (s .0 .0) in
-    let g = closed (fronts (c .before .before .before .before .before .before .before .before .before .before .before .before .before)) (hex 8 (s .0 .0)) (x .last .0) (y .last .0) (x .result) (y .result) (omega (arith, pre)) (x .ensures) (y .ensures) in
+    let g = closed (laid-grown (c .before .before .before .before .before .before .before .before .before .before .before .before .before .put-front .ensures)) (hex 8 (s .0 .0)) (x .last .0) (y .last .0) (x .result) (y .result) (omega (arith, pre)) (x .ensures) (y .ensures) in
     let e = grown-is _ g (header-stamp (now (a .name)) (a .size) (a .stamp) (s .0 .0) (s .1)) in
     let v : s .0 .0 ≤ 0xFFFFFFFF = omega (arith, c .before .before .before .before .before .before .before .before .known-told .given) in
     (e .0, e .1, rw (s .1, le-leb (s .0 .0) 0xFFFFFFFF v))
@@ -65,22 +48,19 @@ same-length-2 c = search needs
 
 returns-2 : tie.Need-returns-2
 returns-2 c =
-    let a = c .before .before .before .before .before .before .before .before .before .before .before .before .before .before .before .before .before .before .before .before .args in
+    let a = c .before .before .before .before .before .before .before .before .args in
     let s = c .enum-told .given .1 in
-    let e = grown-is _ (fronts (c .before .before .before .before)) (header-plain (now (a .name)) (a .size) (a .stamp) s) in
+    let e = grown-is _ (laid-grown (c .before .before .before .before .put-front .ensures)) (header-plain (now (a .name)) (a .size) (a .stamp) s) in
     (e .0, e .1, rw s)
 
 pub put-header-spec : {M : Type 1} → statement M
 put-header-spec =
     tie.close
     (tie.spec
-    append-bytes-requires
-    append-byte-requires
-    append-decimal-requires
-    append-byte-requires-2
+    put-front-requires
     enum-known-stamp
     append-hex-requires
-    append-byte-requires-3
+    append-byte-requires
     enum-told
     same-length
     returns
