@@ -12,7 +12,7 @@ byte-at-requires c κs = search needs
 
 returns : tie.Need-returns
 unfolding ends
-returns c = cc
+returns c = rw (c .byte-at .ensures, c .before .less .ensures)
 
 pub ends-spec : {M : Type 1} → statement M
 ends-spec = tie.close (tie.spec less-requires byte-at-requires returns)

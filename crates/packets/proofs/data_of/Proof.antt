@@ -1,6 +1,6 @@
 -- `packets::data_of` meets its contract: by the span.
 -- Assumes nothing.
-use mathlib.Core.Path.{_≡_, ap, _∙_}
+use mathlib.Core.Path.{_≡_, sym, ap, _∙_}
 use denote.Ref.{now}
 use Rattle.spans.specs.declared.Span.the-variants.{Open, Whole, Drop}
 use Rattle.spans.specs.Span.{span}
@@ -36,19 +36,19 @@ part-requires-3 c κs = search needs
 returns : tie.Need-returns
 returns c =
     let a = c .before .before .before .before .before .before .before .args in
-    let e : span (a .checked) (now (a .b)) ≡ Whole (c .before .before .before .n .given .0 .0) = cc in
+    let e : span (a .checked) (now (a .b)) ≡ Whole (c .before .before .before .n .given .0 .0) = sym (c .before .before .before .before .before .span-of .ensures) ∙ c .before .before .before .n .given .1 in
     rw e (c .payload .ensures ∙ ap (dataOf (a .checked)) (c .before .part .ensures))
 
 returns-2 : tie.Need-returns-2
 returns-2 c =
     let a = c .before .before .before .before .before .args in
-    let e : span (a .checked) (now (a .b)) ≡ Open = cc in
+    let e : span (a .checked) (now (a .b)) ≡ Open = sym (c .before .before .before .span-of .ensures) ∙ c .before .enum-told .given .1 in
     rw e (c .part2 .ensures)
 
 returns-3 : tie.Need-returns-3
 returns-3 c =
     let a = c .before .before .before .before .before .args in
-    let e : span (a .checked) (now (a .b)) ≡ Drop (c .before .enum-told2 .given .0 .0) = cc in
+    let e : span (a .checked) (now (a .b)) ≡ Drop (c .before .enum-told2 .given .0 .0) = sym (c .before .before .before .span-of .ensures) ∙ c .before .enum-told2 .given .1 in
     rw e (c .part3 .ensures)
 
 pub data-of-spec : {M : Type 1} → statement M

@@ -1,6 +1,6 @@
 -- `packets::header_packet` meets its contract: by the reading of the data.
 -- Assumes nothing.
-use mathlib.Core.Path.{_≡_}
+use mathlib.Core.Path.{_≡_, sym, _∙_}
 use denote.Ref.{now}
 use Rattle.packets.specs.declared.HeaderRead.the-variants.{Good, Bad}
 use Rattle.packets.specs.Packet.{headerRead}
@@ -19,12 +19,12 @@ enum-told c = search needs
 
 returns : tie.Need-returns
 returns c =
-    let e : headerRead (now (c .before .before .before .before .args .d)) ≡ Bad = cc in
+    let e : headerRead (now (c .before .before .before .before .args .d)) ≡ Bad = sym (c .before .before .header-read .ensures) ∙ c .enum-told .given .1 in
     rw e
 
 returns-2 : tie.Need-returns-2
 returns-2 c =
-    let e : headerRead (now (c .before .before .before .before .before .args .d)) ≡ Good (c .before .h .given .0 .0) = cc in
+    let e : headerRead (now (c .before .before .before .before .before .args .d)) ≡ Good (c .before .h .given .0 .0) = sym (c .before .before .before .header-read .ensures) ∙ c .before .h .given .1 in
     rw e
 
 pub header-packet-spec : {M : Type 1} → statement M

@@ -1,6 +1,6 @@
 -- `packets::nak_packet` meets its contract: by the resume reading of the data.
 -- Assumes nothing.
-use mathlib.Core.Path.{_≡_}
+use mathlib.Core.Path.{_≡_, sym, _∙_}
 use denote.Ref.{now}
 use Rattle.packets.specs.declared.ResumeRead.the-variants.{Asked, Nothing}
 use Rattle.packets.specs.Packet.{resumeRead}
@@ -19,12 +19,12 @@ enum-told c = search needs
 
 returns : tie.Need-returns
 returns c =
-    let e : resumeRead (now (c .before .before .before .before .args .d)) ≡ Nothing = cc in
+    let e : resumeRead (now (c .before .before .before .before .args .d)) ≡ Nothing = sym (c .before .before .resume-read .ensures) ∙ c .enum-told .given .1 in
     rw e
 
 returns-2 : tie.Need-returns-2
 returns-2 c =
-    let e : resumeRead (now (c .before .before .before .before .before .args .d)) ≡ Asked (c .before .r .given .0 .0) = cc in
+    let e : resumeRead (now (c .before .before .before .before .before .args .d)) ≡ Asked (c .before .r .given .0 .0) = sym (c .before .before .before .resume-read .ensures) ∙ c .before .r .given .1 in
     rw e
 
 pub nak-packet-spec : {M : Type 1} → statement M

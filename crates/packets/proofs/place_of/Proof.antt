@@ -14,7 +14,7 @@ place-at-requires : tie.Need-place-at-requires
 place-at-requires c κs = search needs
 
 returns : tie.Need-returns
-returns c = cc
+returns c = rw (← c .before .before .byte-at .ensures, ← c .before .byte-at2 .ensures) (c .place-at .ensures)
 
 pub place-of-spec : {M : Type 1} → statement M
 place-of-spec = tie.close (tie.spec byte-at-requires byte-at-requires-2 place-at-requires returns)

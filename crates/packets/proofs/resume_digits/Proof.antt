@@ -1,5 +1,5 @@
 -- `resume_digits` reads what stands behind a resume's `R` 00 as the definition does. Assumes nothing.
-use mathlib.Core.Path.{_≡_, _∙_}
+use mathlib.Core.Path.{_≡_, sym, _∙_}
 use native.Mathlib.Omega.{arith}
 use borrow.Author.Needs.{needs}
 use denote.Ref.{now}
@@ -29,7 +29,7 @@ returns : tie.Need-returns
 returns c =
     let f = c .before .before .before .before .before .find in
     let t = now (c .before .before .before .before .before .before .before .args .t) in
-    let e : readSize (take (f .result) t) ≡ NoNumber = cc in
+    let e : readSize (take (f .result) t) ≡ NoNumber = sym (c .before .before .read-size .ensures) ∙ c .enum-told .given .1 in
     digits-none t (f .result) (f .ensures .0) (omega arith) e
 
 add-at : tie.Need-add-at
@@ -52,7 +52,7 @@ returns-2 c =
     let f = c .before .before .before .before .before .before .before .before .find in
     let t = now (c .before .before .before .before .before .before .before .before .before .before .args .t) in
     let v = c .before .before .before .v .given .0 .0 in
-    let e : readSize (take (f .result) t) ≡ Value v = cc in
+    let e : readSize (take (f .result) t) ≡ Value v = sym (c .before .before .before .before .before .read-size .ensures) ∙ c .before .before .before .v .given .1 in
     c .resume-mode .ensures ∙ digits-mode t (f .result) (f .ensures .0) (omega arith) v e
 
 returns-3 : tie.Need-returns-3
