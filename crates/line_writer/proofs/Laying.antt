@@ -7,11 +7,11 @@ use Prim.Native.Nat.{ℕ, _+_, _≤_, _<_}
 use native.Mathlib.Nat.{add-zero}
 use native.Mathlib.Omega.{arith}
 use lib.ListN.{length, length-append, take-append-drop}
-use Rattle.numbers.specs.Writing.{decimal, hex}
+use Rattle.numerals.specs.Writing.{decimal, hex}
 use Rattle.fields.specs.Buffer.{over, appended, appendedEnd}
 use Rattle.fields.proofs.Lists.{le-or-lt}
 use Rattle.fields.proofs.Buffer.{Grown, grown-none, grown, grown-is, append-fits, append-short}
-use Rattle.numbers.proofs.Writing.{hex-length}
+use Rattle.numerals.proofs.Writing.{hex-length}
 use Rattle.numbers.proofs.RoundTrip.{decimal-length}
 use Rattle.line_writer.specs.Head.{lineHead}
 use Rattle.lines.specs.Element.{resumeMark, basicBytes, lineBytes, okBytes, keptBytes, noBytes}

@@ -2,14 +2,17 @@
 // and a refusal leaves all as it was: a buffer under 259 bytes is 20, an element that has no form is 22.
 use fields::Written;
 use lines::Frame;
+use lines::Kept;
+use lines::Line;
 ghost use mathlib.Core.Path.{_≡_};
 ghost use mathlib.Core.List.{[]};
 ghost use Prim.Native.Nat.{_≤_};
 ghost use lib.ListN.{length};
 ghost use Rattle.fields.specs.Buffer.{over, appended, appendedEnd, formless, bytes as bytesForm, writtenOf, leftOf};
-ghost use Rattle.numbers.specs.Writing.{decimal, hex};
+ghost use Rattle.numerals.specs.Writing.{decimal, hex};
 ghost use Rattle.line_writer.specs.Head.{lineHead};
 ghost use Rattle.lines.specs.Frame.{stopFrame};
+ghost use Rattle.lines.specs.declared.Frame.the-variants.{Extended, OKKept};
 ghost use Rattle.lines.specs.Element.{contentOf, resumeMark, basicBytes, lineBytes, okBytes, keptBytes, noBytes, basicForm, lineForm, okNameForm, okKeptForm, noForm, formOf};
 
 // The least reply buffer.
@@ -21,7 +24,7 @@ fn put_basic(reply: &mut [u8], size: u32) -> usize
     ensures { λ r. ⌜ (r ≡ length (basicBytes (decimal size))) × (now (reply .exit) ≡ over 0 (basicBytes (decimal size)) (now (reply .entry))) ⌝ }
 {
     let start = fields::append_bytes(reply, 0, b"#BIN#");
-    let sized = numbers::append_decimal(reply, start, size as u64);
+    let sized = numerals::append_decimal(reply, start, size as u64);
     fields::append_byte(reply, sized, 13)
 }
 
@@ -55,11 +58,11 @@ fn put_head(reply: &mut [u8], size: u32, crc: u16, stamp: u32) -> usize
     ensures { λ r. ⌜ (r ≡ length (lineHead (decimal size) (decimal crc) (hex 8 stamp))) × (now (reply .exit) ≡ over 0 (lineHead (decimal size) (decimal crc) (hex 8 stamp)) (now (reply .entry))) ⌝ }
 {
     let mark = fields::append_bytes(reply, 0, b"#BIN#");
-    let size_end = numbers::append_decimal(reply, mark, size as u64);
+    let size_end = numerals::append_decimal(reply, mark, size as u64);
     let crc_start = fields::append_bytes(reply, size_end, b"#|");
-    let crc_end = numbers::append_decimal(reply, crc_start, crc as u64);
+    let crc_end = numerals::append_decimal(reply, crc_start, crc as u64);
     let stamp_start = fields::append_bytes(reply, crc_end, b"#$");
-    numbers::append_hex(reply, stamp_start, stamp)
+    numerals::append_hex(reply, stamp_start, stamp)
 }
 
 // `#BIN#`size`#|`crc`#$`stamp`?#`name`\r`
@@ -148,9 +151,9 @@ fn put_kept(reply: &mut [u8], name: &[u8], kept: u32, crc: u16) -> usize
     let mark = fields::append_bytes(reply, 0, b"#OK#");
     let name_end = fields::append_bytes(reply, mark, name);
     let kept_start = fields::append_bytes(reply, name_end, b"#$");
-    let kept_end = numbers::append_decimal(reply, kept_start, kept as u64);
+    let kept_end = numerals::append_decimal(reply, kept_start, kept as u64);
     let crc_start = fields::append_byte(reply, kept_end, b'#');
-    let crc_end = numbers::append_decimal(reply, crc_start, crc as u64);
+    let crc_end = numerals::append_decimal(reply, crc_start, crc as u64);
     fields::append_byte(reply, crc_end, 13)
 }
 
@@ -216,34 +219,41 @@ fn write_none(reply: &mut [u8]) -> Written
     Written::Formless
 }
 
+// An extended line, its name being in source.
+fn write_extended(reply: &mut [u8], source: &[u8], l: Line) -> Written
+    ensures { λ r. ⌜ (r ≡ writtenOf 259 (formOf (contentOf (now (source .entry)) (Extended l))) (now (reply .entry))) × (now (reply .exit) ≡ leftOf 259 (formOf (contentOf (now (source .entry)) (Extended l))) (now (reply .entry))) ⌝ }
+{
+    let name = l.name;
+    write_line(
+        reply,
+        l.size,
+        l.crc,
+        l.stamp,
+        l.resumable,
+        fields::bytes_at(source, name),
+    )
+}
+
+// The third OK, its name being in source.
+fn write_kept(reply: &mut [u8], source: &[u8], k: Kept) -> Written
+    ensures { λ r. ⌜ (r ≡ writtenOf 259 (formOf (contentOf (now (source .entry)) (OKKept k))) (now (reply .entry))) × (now (reply .exit) ≡ leftOf 259 (formOf (contentOf (now (source .entry)) (OKKept k))) (now (reply .entry))) ⌝ }
+{
+    let name = k.name;
+    write_ok_kept(reply, fields::bytes_at(source, name), k.kept, k.crc)
+}
+
 // Any element, its places being in source.
 pub fn write(frame: Frame, source: &[u8], reply: &mut [u8]) -> Written
     ensures { λ r. ⌜ (r ≡ writtenOf 259 (formOf (contentOf (now (source .entry)) frame)) (now (reply .entry))) × (now (reply .exit) ≡ leftOf 259 (formOf (contentOf (now (source .entry)) frame)) (now (reply .entry))) ⌝ }
 {
     match frame {
         Frame::Basic(size) => write_basic(reply, size),
-        Frame::Extended(l) => {
-            let name = l.name;
-            write_line(
-                reply,
-                l.size,
-                l.crc,
-                l.stamp,
-                l.resumable,
-                fields::bytes_at(source, name),
-            )
-        }
-        Frame::MalformedLine => write_none(reply),
+        Frame::Extended(l) => write_extended(reply, source, l),
         Frame::OK => write_ok(reply),
         Frame::OKName(name) => write_ok_name(reply, fields::bytes_at(source, name)),
-        Frame::OKKept(k) => {
-            let name = k.name;
-            write_ok_kept(reply, fields::bytes_at(source, name), k.kept, k.crc)
-        }
-        Frame::MalformedOK => write_none(reply),
+        Frame::OKKept(k) => write_kept(reply, source, k),
         Frame::NO(text) => write_no(reply, fields::bytes_at(source, text)),
         Frame::Stop => write_stop(reply),
-        Frame::Display(_) => write_none(reply),
-        Frame::Other => write_none(reply),
+        _ => write_none(reply),
     }
 }

@@ -5,7 +5,7 @@ use mathlib.Core.List.{List, [], _∷_}
 use Prim.Native.Nat.{ℕ}
 use Rattle.fields.specs.Lists.{all}
 use Rattle.fields.specs.Name.{isNameByte, isName}
-use Rattle.numbers.specs.Writing.{digits, decimal, capital, hex}
+use Rattle.numerals.specs.Writing.{digits, decimal, capital, hex}
 use Rattle.fields.specs.Buffer.{bytes}
 use Rattle.lines.specs.Element.{Element, extended, okKept, lineBytes, keptBytes, lineForm, okKeptForm, formOf}
 

@@ -14,7 +14,7 @@ use Rattle.fields.specs.Name.{isName}
 use Rattle.fields.specs.Buffer.{bytes}
 use Rattle.fields.proofs.Lists.{same-eq, name-length}
 use Rattle.numbers.proofs.Reading.{size-below, crc-below, hex-below}
-use Rattle.numbers.proofs.Writing.{hex-length}
+use Rattle.numerals.proofs.Writing.{hex-length}
 use Rattle.numbers.proofs.RoundTrip.{decimal-length}
 use Rattle.lines.specs.declared.Frame.{Frame}
 use Rattle.lines.specs.Frame.{lineMark, okMark, noMark, stopFrame, displayMark, starts, frameOf}

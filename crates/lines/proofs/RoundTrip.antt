@@ -10,11 +10,11 @@ use borrow.Author.Tests.{le-leb, leb-true}
 use Rattle.fields.specs.Lists.{bytesAt}
 use Rattle.fields.specs.Name.{isName}
 use Rattle.numbers.specs.Canonical.{plain, capitals}
-use Rattle.numbers.specs.Writing.{decimal, hex}
+use Rattle.numerals.specs.Writing.{decimal, hex}
 use Rattle.fields.specs.Buffer.{formless, bytes, formIf}
 use Rattle.fields.proofs.Lists.{both}
 use Rattle.numbers.proofs.Reading.{size-below, crc-below, hex-below}
-use Rattle.numbers.proofs.Writing.{hex-capitals}
+use Rattle.numbers.proofs.Canonical.{hex-capitals}
 use Rattle.numbers.proofs.RoundTrip.{read-size, read-crc, read-hex, decimal-plain, size-back, crc-back, hex-back}
 use Rattle.lines.specs.declared.Frame.{Frame}
 use Rattle.lines.specs.Frame.{noMark, stopFrame, ends, body, textOf, frameOf}

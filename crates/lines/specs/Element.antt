@@ -7,7 +7,7 @@ use lib.Dec.{leb}
 use Rattle.fields.specs.Pick.{pick}
 use Rattle.fields.specs.Lists.{bytesAt}
 use Rattle.fields.specs.Name.{isName}
-use Rattle.numbers.specs.Writing.{decimal, hex}
+use Rattle.numerals.specs.Writing.{decimal, hex}
 use Rattle.fields.specs.Buffer.{Form, formless, bytes, formIf}
 use Rattle.lines.specs.declared.Frame.{Frame}
 use Rattle.lines.specs.declared.Frame.the-variants.{Basic, Extended, MalformedLine, OK, OKName, OKKept, MalformedOK, NO, Stop, Display, Other}

@@ -7,7 +7,7 @@ use Prim.Native.Nat.{ℕ, _+_, _-_, _≤_, _<_, _^_}
 use native.Mathlib.Omega.{arith}
 use lib.ListN.{length, length-append}
 use borrow.Author.Tests.{eq-eqb, ne-eqb}
-use Rattle.numbers.specs.Writing.{decimal}
+use Rattle.numerals.specs.Writing.{decimal}
 use Rattle.fields.specs.Buffer.{over, appended, appendedEnd}
 use Rattle.fields.proofs.Buffer.{Grown, grown-none, grown, grown-is}
 use Rattle.fields.proofs.Lists.{le-or-lt}

@@ -6,7 +6,7 @@ use mathlib.Core.List.{List, [], _∷_, _++_}
 use lib.ListN.{length}
 use lib.Dec.{eqb}
 use Rattle.fields.specs.Pick.{pick}
-use Rattle.numbers.specs.Writing.{decimal}
+use Rattle.numerals.specs.Writing.{decimal}
 use Rattle.spans.specs.Span.{sizeOf}
 use Rattle.packets.specs.Content.{Content, unfinished}
 use Rattle.packets.specs.Kind.{RR, RF, AF, AT, CA, RT, SI, RI, HD, DT, EF, ET, NR, RE, CN, TX, BadHD, Unreadable, Unfinished, partsOf, look}

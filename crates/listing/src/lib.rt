@@ -6,7 +6,7 @@ ghost use mathlib.Core.Path.{_≡_};
 ghost use Prim.Native.Nat.{_+_, _-_, _≤_};
 ghost use lib.ListN.{length};
 ghost use Rattle.fields.specs.Buffer.{over, appended, appendedEnd};
-ghost use Rattle.numbers.specs.Writing.{decimal};
+ghost use Rattle.numerals.specs.Writing.{decimal};
 ghost use mathlib.Core.List.{[]};
 ghost use Rattle.spans.specs.Span.{sizeOf};
 ghost use Rattle.packets.specs.Content.{contentOf};
@@ -99,11 +99,11 @@ fn put_line(out: &mut [u8], offset: u64, kind: usize, count: usize) -> usize
     requires { ⌜ (kind ≤ 18) × (26 + length (decimal count) ≤ length (now out)) ⌝ }
     ensures { λ r. ⌜ (r ≡ length (line offset (letters kind) count)) × (now (out .exit) ≡ over 0 (line offset (letters kind) count) (now (out .entry))) ⌝ }
 {
-    let a = numbers::append_decimal(out, 0, offset);
+    let a = numerals::append_decimal(out, 0, offset);
     let b = fields::append_byte(out, a, b' ');
     let c = append_letters(out, b, kind);
     let d = fields::append_byte(out, c, b' ');
-    let e = numbers::append_decimal(out, d, count as u64);
+    let e = numerals::append_decimal(out, d, count as u64);
     fields::append_byte(out, e, b'\n')
 }
 
@@ -158,7 +158,7 @@ fn put_ending(out: &mut [u8], offset: u64, n: usize, total: u64) -> usize
 {
     let at = put_cut(out, offset, n);
     let a = fields::append_bytes(out, at, b"end ");
-    let b = numbers::append_decimal(out, a, total);
+    let b = numerals::append_decimal(out, a, total);
     fields::append_byte(out, b, b'\n')
 }
 

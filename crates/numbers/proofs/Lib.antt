@@ -1,4 +1,4 @@
 -- Laws of the definitions of specs/, which this crate's proofs and its callers' cite.
 pub mod Reading
-pub mod Writing
+pub mod Canonical
 pub mod RoundTrip

@@ -16,9 +16,9 @@ use Rattle.numbers.specs.declared.Base.the-variants.{Decimal, Hex}
 use Rattle.fields.specs.Lists.{all, upTo}
 use Rattle.numbers.specs.Canonical.{plain, isCapital, capitals, isByte}
 use Rattle.numbers.specs.Reading.{radix, decimalDigit, hexDigit, digit, valueFrom, readDecimal, readSize, readCrc, readHex, littleValue, readLittle}
-use Rattle.numbers.specs.Writing.{decimal, capital, hex, little}
+use Rattle.numerals.specs.Writing.{decimal, capital, hex, little}
 use Rattle.fields.proofs.Lists.{le-or-lt, both}
-use Rattle.numbers.proofs.Writing.{decimal-small, decimal-more, decimal-some, hex-length, little-length}
+use Rattle.numerals.proofs.Writing.{decimal-small, decimal-more, decimal-some, hex-length, little-length}
 use Rattle.numbers.proofs.Reading.{below, below-none, decimal-is, decimal-byte, hex-is, hex-upper, hex-low, hex-past-nine, hex-past-upper, hex-past-lower, value-none, value-one, value-digit, value-grows, readDecimal-is, readCrc-is, readHex-is, readLittle-is, decimal-form, crc-form, hex-form, little-form, decimal-below, decimal-without}
 
 -- Written, and read back

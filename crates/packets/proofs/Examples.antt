@@ -7,7 +7,7 @@ use Prim.Native.Nat.{ℕ}
 use Rattle.fields.specs.declared.Stamp.the-variants.{Absent}
 use Rattle.fields.specs.Lists.{all}
 use Rattle.fields.specs.Name.{isNameByte, isName}
-use Rattle.numbers.specs.Writing.{digits, decimal}
+use Rattle.numerals.specs.Writing.{digits, decimal}
 use Rattle.fields.specs.Buffer.{Form, bytes}
 use Rattle.packets.specs.Packet.{checksum}
 use Rattle.packets.specs.Content.{hd, dt, re, stampData, headerData, headerForm, blockForm, resumeData, resumeForm, formOf}

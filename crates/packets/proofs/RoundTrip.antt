@@ -14,12 +14,12 @@ use Rattle.fields.specs.declared.Stamp.the-variants.{Present, Absent}
 use Rattle.fields.specs.Pick.{pick}
 use Rattle.fields.specs.Lists.{all}
 use Rattle.fields.specs.Name.{isNameByte, isName}
-use Rattle.numbers.specs.Writing.{decimal, hex}
+use Rattle.numerals.specs.Writing.{decimal, hex}
 use Rattle.fields.specs.Buffer.{formless, bytes, formIf}
 use Rattle.fields.proofs.Lists.{le-or-lt, both, all-append, name-length, name-free, cut-before, cut-inside, cut-behind}
-use Rattle.numbers.proofs.Writing.{hex-length}
+use Rattle.numerals.proofs.Writing.{hex-length}
 use Rattle.numbers.proofs.RoundTrip.{decimal-plain, read-size, read-hex, decimal-length}
-use Rattle.numbers.proofs.Writing.{decimal-free, hex-capitals}
+use Rattle.numbers.proofs.Canonical.{decimal-free, hex-capitals}
 use Rattle.spans.specs.declared.Span.the-variants.{Whole}
 use Rattle.packets.specs.declared.HeaderRead.the-variants.{Good}
 use Rattle.packets.specs.declared.ResumeRead.{ResumeRead}

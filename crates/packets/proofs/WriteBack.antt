@@ -14,7 +14,7 @@ use Rattle.fields.specs.declared.Stamp.the-variants.{Present, Absent}
 use Rattle.fields.specs.Pick.{pick}
 use Rattle.numbers.specs.Canonical.{plain, capitals, isByte}
 use Rattle.fields.specs.Lists.{all, upTo}
-use Rattle.numbers.specs.Writing.{hex}
+use Rattle.numerals.specs.Writing.{hex}
 use Rattle.fields.specs.Buffer.{bytes}
 use Rattle.fields.proofs.Lists.{both, upTo-cut}
 use Rattle.numbers.proofs.RoundTrip.{size-back, hex-back}

@@ -7,7 +7,7 @@ use lib.Dec.{leb}
 use Rattle.fields.specs.Pick.{pick}
 use Rattle.fields.specs.Lists.{bytesAt}
 use Rattle.fields.specs.Name.{isName}
-use Rattle.numbers.specs.Writing.{decimal, hex}
+use Rattle.numerals.specs.Writing.{decimal, hex}
 use Rattle.fields.specs.Buffer.{Form, formless, bytes, formIf}
 use Rattle.fields.specs.declared.Place.{Place}
 use Rattle.fields.specs.declared.Stamp.{Stamp}

@@ -6,7 +6,7 @@ use Rattle.fields.specs.declared.Stamp.the-variants.{Present, Absent}
 use Rattle.fields.specs.Lists.{all}
 use Rattle.fields.specs.Name.{isNameByte, isName}
 use Rattle.numbers.specs.Reading.{littleValue}
-use Rattle.numbers.specs.Writing.{little}
+use Rattle.numerals.specs.Writing.{little}
 use Rattle.fields.specs.Buffer.{bytes}
 use Rattle.records.specs.declared.RecordRead.the-variants.{Good}
 use Rattle.records.specs.Record.{namedAt, kindRead, recordOf}

@@ -13,10 +13,10 @@ use Rattle.fields.specs.declared.Stamp.the-variants.{Present, Absent}
 use Rattle.fields.specs.Lists.{part, all}
 use Rattle.fields.specs.Name.{isNameByte, isName}
 use Rattle.numbers.specs.Canonical.{isByte}
-use Rattle.numbers.specs.Writing.{little}
+use Rattle.numerals.specs.Writing.{little}
 use Rattle.fields.specs.Buffer.{bytes}
 use Rattle.fields.proofs.Lists.{both, all-append, name-length}
-use Rattle.numbers.proofs.Writing.{little-length}
+use Rattle.numerals.proofs.Writing.{little-length}
 use Rattle.numbers.proofs.RoundTrip.{little-value, little-bytes-back, little-below, little-bytes}
 use Rattle.records.specs.declared.Record.{Record}
 use Rattle.records.specs.declared.RecordRead.the-variants.{Good, Unreadable}

@@ -11,14 +11,14 @@ fn put(s: &[u8]) {
 
 fn put_number(n: u64) {
     let mut room = [0u8; 20];
-    let k = numbers::append_decimal(&mut room, 0, n);
+    let k = numerals::append_decimal(&mut room, 0, n);
     put(fields::part(&room, 0, k));
 }
 
 // The last digits of v, at most eight.
 fn put_hex(v: u32, digits: usize) {
     let mut room = [0u8; 8];
-    numbers::append_hex(&mut room, 0, v);
+    numerals::append_hex(&mut room, 0, v);
     if digits <= 8 {
         put(fields::part(&room, 8 - digits, digits));
     }

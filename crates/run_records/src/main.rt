@@ -17,7 +17,7 @@ fn print_number(label: &[u8], n: u32) {
 
 fn print_byte(b: u8) {
     let mut digits = [0u8; 2];
-    numbers::fill_hex(&mut digits, b as u32);
+    numerals::fill_hex(&mut digits, b as u32);
     print(b" ");
     print(&digits);
 }

@@ -15,9 +15,9 @@ use borrow.Author.Tests.{le-leb, lt-leb}
 use Rattle.fields.specs.declared.Stamp.{Stamp}
 use Rattle.fields.specs.declared.Stamp.the-variants.{Present, Absent}
 use Rattle.fields.specs.Name.{isName}
-use Rattle.numbers.specs.Writing.{decimal, hex}
+use Rattle.numerals.specs.Writing.{decimal, hex}
 use Rattle.fields.specs.Buffer.{over, placed, placedCount, appended, appendedEnd, formless, bytes, formIf}
-use Rattle.numbers.proofs.Writing.{hex-length}
+use Rattle.numerals.proofs.Writing.{hex-length}
 use Rattle.numbers.proofs.RoundTrip.{decimal-length}
 use Rattle.fields.proofs.Buffer.{set-over, append-fits, append-part, length-over, Grown, grown-none, grown}
 use Rattle.packets.specs.Packet.{resumeRead, checksum}

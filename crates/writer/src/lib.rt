@@ -111,7 +111,7 @@ fn put_front(room: &mut [u8], a: &[u8], n: u32) -> usize
 {
     let named = fields::append_bytes(room, 0, a);
     let at = fields::append_byte(room, named, 0);
-    let sized = numbers::append_decimal(room, at, n as u64);
+    let sized = numerals::append_decimal(room, at, n as u64);
     fields::append_byte(room, sized, 0)
 }
 
@@ -123,7 +123,7 @@ fn put_header(room: &mut [u8], name: &[u8], size: u32, stamp: Stamp) -> usize
     let next = put_front(room, name, size);
     match stamp {
         Stamp::Present(v) => {
-            let stamped = numbers::append_hex(room, next, v);
+            let stamped = numerals::append_hex(room, next, v);
             fields::append_byte(room, stamped, 0)
         }
         Stamp::Absent => next,

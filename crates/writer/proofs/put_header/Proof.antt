@@ -3,8 +3,8 @@ use Prim.Native.Nat.{_≤_}
 use native.Mathlib.Omega.{arith}
 use denote.Ref.{now}
 use borrow.Author.Tests.{le-leb}
-use Rattle.numbers.specs.Writing.{hex}
-use Rattle.numbers.proofs.Writing.{hex-length}
+use Rattle.numerals.specs.Writing.{hex}
+use Rattle.numerals.proofs.Writing.{hex-length}
 use Rattle.fields.proofs.Buffer.{grown-is}
 use Rattle.writer.proofs.Forms.{closed, laid-grown, front-short, header-stamp, header-plain}
 use borrow.Author.Needs.{needs}

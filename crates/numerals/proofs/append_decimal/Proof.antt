@@ -7,10 +7,10 @@ use denote.Ref.{now}
 use lib.ListN.{length, length-take, length-drop}
 use borrow.Rule.Slice.PartMut.{midOf}
 use Rattle.fields.proofs.Buffer.{append-part, append-short, count-le}
-use Rattle.numbers.specs.Writing.{decimal}
+use Rattle.numerals.specs.Writing.{decimal}
 use borrow.Author.Needs.{needs}
-use Rattle.numbers.proofs.append_decimal.Statement.{statement}
-use Rattle.numbers.proofs.append_decimal.Tie as tie
+use Rattle.numerals.proofs.append_decimal.Statement.{statement}
+use Rattle.numerals.proofs.append_decimal.Tie as tie
 
 sub-put-decimal : tie.Need-sub-put-decimal
 sub-put-decimal c = search needs

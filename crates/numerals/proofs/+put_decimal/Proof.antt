@@ -8,16 +8,16 @@ use native.Mathlib.Omega.{arith}
 use lib.ListN.{length, drop, length-set, length-take}
 use lib.Seq.{length-front}
 use denote.Ref.{now}
-use Rattle.numbers.specs.Writing.{decimal}
-use Rattle.numbers.proofs.Writing.{decimal-small, decimal-more, decimal-some}
+use Rattle.numerals.specs.Writing.{decimal}
+use Rattle.numerals.proofs.Writing.{decimal-small, decimal-more, decimal-some}
 use Rattle.fields.proofs.Buffer.{placed-fits, placed-short, count-fits, count-short, set-over, Snoc, snoc-fits, snoc-count, snoc-refused, snoc-more}
 use borrow.Fn.Kinds.{In}
 use borrow.Fn.PlainCycle.{Measures, is, falls, and}
-use Rattle.numbers.proofs.put_decimal.Reads as reads
-use Rattle.numbers.proofs.put_decimal.Kinds as kinds
-use Rattle.numbers.proofs.+put_decimal.Lts-put_decimal as lts
-use Rattle.numbers.proofs.+put_decimal.{statement}
-use Rattle.numbers.proofs.+put_decimal.Tie.{close}
+use Rattle.numerals.proofs.put_decimal.Reads as reads
+use Rattle.numerals.proofs.put_decimal.Kinds as kinds
+use Rattle.numerals.proofs.+put_decimal.Lts-put_decimal as lts
+use Rattle.numerals.proofs.+put_decimal.{statement}
+use Rattle.numerals.proofs.+put_decimal.Tie.{close}
 
 abbrev μ : Measures 1 kinds.ps ℕ
 μ κs a = a .1 .0
