@@ -1,3 +1,2 @@
--- Laws of the forms of packets.
-pub mod Forms
+-- Laws of how packets begin.
 pub mod Codes

@@ -60,5 +60,5 @@ textOf Open = noText
 unfoldable pub codeForm : ℕ → List ℕ → Form
 codeForm code s =
     pick (leb code 255)
-    (pick (eqb code 0) formless (pick (eqb code 5) (requestForm s) (pick (eqb code 0x15) (refusalForm s) (countedForm code s))))
+    (pick (eqb code 0) formless (pick (eqb code 5) (requestForm s) (pick (eqb code 0x15) (refusalForm s) (pick (eqb code 0x18) (countedForm 0x18 s) (countedForm 0x10 s)))))
     (bytes (code / 256 ∷ code % 256 ∷ []))

@@ -30,11 +30,11 @@ write-ri-requires c κs = search needs
 write-nr-requires : tie.Need-write-nr-requires
 write-nr-requires c κs = search needs
 
-cast-write-counted : tie.Need-cast-write-counted
-cast-write-counted c = search needs
+write-cn-requires : tie.Need-write-cn-requires
+write-cn-requires c κs = search needs
 
-write-counted-requires : tie.Need-write-counted-requires
-write-counted-requires c κs = search needs
+write-tx-requires : tie.Need-write-tx-requires
+write-tx-requires c κs = search needs
 
 same-length-2 : tie.Need-same-length-2
 same-length-2 c = search needs
@@ -62,10 +62,17 @@ same-length-5 c = search needs
 
 returns-5 : tie.Need-returns-5
 unfolding codeForm
-returns-5 c =
+returns-5 c = rw (c .before .before .before .before .match .keys4) (c .before .before .write-cn .ensures)
+
+same-length-6 : tie.Need-same-length-6
+same-length-6 c = search needs
+
+returns-6 : tie.Need-returns-6
+unfolding codeForm
+returns-6 c =
     let n = c .before .before .before .before .before .before .before .before .args .code in
     let no = c .before .before .before .before .match .rest in
-    rw (le-leb n 255 (c .before .before .before .before .before .if1 .left), ne-eqb n 0 (no .0 .0 .1), ne-eqb n 5 (no .0 .1), ne-eqb n 0x15 (no .1)) (c .before .before .write-counted .ensures)
+    rw (le-leb n 255 (c .before .before .before .before .before .if1 .left), ne-eqb n 0 (no .0 .0 .0 .1), ne-eqb n 5 (no .0 .0 .1), ne-eqb n 0x15 (no .0 .1), ne-eqb n 0x18 (no .1)) (c .before .before .write-tx .ensures)
 
 pub write-code-spec : {M : Type 1} → statement M
 write-code-spec =
@@ -79,8 +86,8 @@ write-code-spec =
     write-none-requires
     write-ri-requires
     write-nr-requires
-    cast-write-counted
-    write-counted-requires
+    write-cn-requires
+    write-tx-requires
     same-length-2
     returns-2
     same-length-3
@@ -88,4 +95,6 @@ write-code-spec =
     same-length-4
     returns-4
     same-length-5
-    returns-5)
+    returns-5
+    same-length-6
+    returns-6)

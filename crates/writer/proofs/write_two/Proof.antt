@@ -6,7 +6,7 @@ use denote.Ref.{now}
 use lib.ListN.{length-set}
 use Rattle.fields.specs.Buffer.{bytes}
 use Rattle.fields.proofs.Buffer.{small, written}
-use Rattle.writer.proofs.Forms.{over-nothing, leads}
+use Rattle.text_writer.proofs.Leads.{over-nothing, leads}
 use borrow.Author.Needs.{needs}
 use Rattle.writer.proofs.write_two.Statement.{statement}
 use Rattle.writer.proofs.write_two.Tie as tie

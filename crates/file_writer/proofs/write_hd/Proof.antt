@@ -9,10 +9,11 @@ use borrow.Rule.Slice.PartMut.{same-len-mid}
 use Rattle.fields.proofs.Lists.{name-length}
 use Rattle.fields.proofs.Buffer.{part-over, small, refused, written}
 use Rattle.packets.specs.Content.{headerData, headerForm}
-use Rattle.writer.proofs.Forms.{leads, header-name, header-size, header-is, header-short}
+use Rattle.text_writer.proofs.Leads.{leads}
+use Rattle.file_writer.proofs.Forms.{header-name, header-size, header-is, header-short}
 use borrow.Author.Needs.{needs}
-use Rattle.writer.proofs.write_hd.Statement.{statement}
-use Rattle.writer.proofs.write_hd.Tie as tie
+use Rattle.file_writer.proofs.write_hd.Statement.{statement}
+use Rattle.file_writer.proofs.write_hd.Tie as tie
 
 -- the header's data are short
 short : (c : tie.After-slice-known2) → length (headerData (now (c .before .before .before .before .before .before .before .before .before .before .args .name)) (c .before .before .before .before .before .before .before .before .before .before .args .size) (c .before .before .before .before .before .before .before .before .before .before .args .stamp)) ≤ 83

@@ -9,10 +9,11 @@ use borrow.Rule.Slice.PartMut.{putMid, same-len-mid}
 use Rattle.fields.specs.Buffer.{over}
 use Rattle.fields.proofs.Buffer.{small, refused, written}
 use Rattle.packets.specs.Content.{requestForm}
-use Rattle.writer.proofs.Forms.{lent, before, leads, request-long, request-is}
+use Rattle.text_writer.proofs.Leads.{lent, before, leads}
+use Rattle.text_writer.proofs.Forms.{request-long, request-is}
 use borrow.Author.Needs.{needs}
-use Rattle.writer.proofs.write_ri.Statement.{statement}
-use Rattle.writer.proofs.write_ri.Tie as tie
+use Rattle.text_writer.proofs.write_ri.Statement.{statement}
+use Rattle.text_writer.proofs.write_ri.Tie as tie
 
 -- the data in the buffer, behind the leading bytes
 laid : (c : tie.After-slice-known2) → (c .before .before .put-bytes .result ≡ length (now (c .before .before .before .before .before .before .before .before .args .filespec)))

@@ -5,9 +5,9 @@ use denote.Ref.{now}
 use borrow.Author.Needs.{needs}
 use Rattle.fields.proofs.Buffer.{small, refused}
 use Rattle.packets.specs.Content.{refusalForm}
-use Rattle.writer.proofs.Forms.{refusal-asked, refusal-is}
-use Rattle.writer.proofs.write_nr.Statement.{statement}
-use Rattle.writer.proofs.write_nr.Tie as tie
+use Rattle.text_writer.proofs.Forms.{refusal-asked, refusal-is}
+use Rattle.text_writer.proofs.write_nr.Statement.{statement}
+use Rattle.text_writer.proofs.write_nr.Tie as tie
 
 returns : tie.Need-returns
 returns c =

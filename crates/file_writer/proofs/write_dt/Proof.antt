@@ -8,10 +8,11 @@ use borrow.Rule.Slice.PartMut.{putMid, same-len-mid}
 use Rattle.fields.proofs.Buffer.{Grown, grown, small, refused, written}
 use Rattle.packets.specs.Packet.{checksum}
 use Rattle.packets.specs.Content.{blockForm}
-use Rattle.writer.proofs.Forms.{lent, leads, block-none, block-long, block-checked, block-plain}
+use Rattle.text_writer.proofs.Leads.{lent, leads}
+use Rattle.file_writer.proofs.Forms.{block-none, block-long, block-checked, block-plain}
 use borrow.Author.Needs.{needs}
-use Rattle.writer.proofs.write_dt.Statement.{statement}
-use Rattle.writer.proofs.write_dt.Tie as tie
+use Rattle.file_writer.proofs.write_dt.Statement.{statement}
+use Rattle.file_writer.proofs.write_dt.Tie as tie
 
 -- the buffer after the two stores
 abbrev stored : tie.After-slice-known2 → List ℕ

@@ -1,7 +1,7 @@
 -- `is_resume` tells whether the data of a NAK read as a resume. Assumes nothing.
 use borrow.Author.Needs.{needs}
-use Rattle.writer.proofs.is_resume.Statement.{statement}
-use Rattle.writer.proofs.is_resume.Tie as tie
+use Rattle.text_writer.proofs.is_resume.Statement.{statement}
+use Rattle.text_writer.proofs.is_resume.Tie as tie
 
 resume-read-requires : tie.Need-resume-read-requires
 resume-read-requires c κs = search needs

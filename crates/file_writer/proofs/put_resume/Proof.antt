@@ -2,10 +2,10 @@
 use mathlib.Core.List.{[], _∷_}
 use native.Mathlib.Omega.{arith}
 use Rattle.fields.proofs.Buffer.{grown-is}
-use Rattle.writer.proofs.Forms.{closed, laid-grown, front-short, resume-checked, resume-plain}
+use Rattle.file_writer.proofs.Forms.{closed, laid-grown, front-short, resume-checked, resume-plain}
 use borrow.Author.Needs.{needs}
-use Rattle.writer.proofs.put_resume.Statement.{statement}
-use Rattle.writer.proofs.put_resume.Tie as tie
+use Rattle.file_writer.proofs.put_resume.Statement.{statement}
+use Rattle.file_writer.proofs.put_resume.Tie as tie
 
 slice-aggregate-put-front : tie.Need-slice-aggregate-put-front
 slice-aggregate-put-front c = search needs

@@ -1,9 +1,9 @@
 -- `put_front` lays a 00 n 00 down. Assumes nothing.
 use denote.Ref.{now}
-use Rattle.writer.proofs.Forms.{fronted}
+use Rattle.file_writer.proofs.Forms.{fronted}
 use borrow.Author.Needs.{needs}
-use Rattle.writer.proofs.put_front.Statement.{statement}
-use Rattle.writer.proofs.put_front.Tie as tie
+use Rattle.file_writer.proofs.put_front.Statement.{statement}
+use Rattle.file_writer.proofs.put_front.Tie as tie
 
 append-bytes-requires : tie.Need-append-bytes-requires
 append-bytes-requires c κs = search needs

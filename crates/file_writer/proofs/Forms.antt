@@ -1,59 +1,23 @@
--- The laws of the packets' forms: for each the ways that it is refused, and its bytes. And the laws of the buffer that its bytes are
--- laid into. Assumes nothing.
-use mathlib.Core.Path.{_≡_, refl, sym, ap, _∙_}
-use mathlib.Core.Bool.{Bool, true, false, _&&_}
+-- The laws of the forms of HD, DT and RE: for each the ways that it is refused, and its bytes; and how their data are laid into the
+-- buffer. Assumes nothing.
+use mathlib.Core.Path.{_≡_, refl, sym, ap}
+use mathlib.Core.Bool.{Bool, true, false}
 use mathlib.Core.List.{List, [], _∷_, _++_, append-assoc, append-nil}
-use Prim.Native.Nat.{ℕ, suc, _+_, _-_, _%_, _≤_, _<_}
-use native.Mathlib.Nat.{add-zero}
-use native.Mathlib.Numerals.{add-one}
+use Prim.Native.Nat.{ℕ, _+_, _-_, _%_, _≤_, _<_}
 use native.Mathlib.Omega.{arith}
-use lib.ListN.{length, take, drop, set, length-append, length-take, take-append-drop}
-use lib.Dec.{leb}
-use lib.Seq.{take-append-le, take-take, drop-at}
-use borrow.Rule.Slice.PartMut.{midOf, putMid}
+use lib.ListN.{length, length-append}
 use borrow.Author.Tests.{le-leb, lt-leb}
 use Rattle.fields.specs.declared.Stamp.{Stamp}
 use Rattle.fields.specs.declared.Stamp.the-variants.{Present, Absent}
 use Rattle.fields.specs.Name.{isName}
 use Rattle.numerals.specs.Writing.{decimal, hex}
-use Rattle.fields.specs.Buffer.{over, placed, placedCount, appended, appendedEnd, formless, bytes, formIf}
+use Rattle.fields.specs.Buffer.{over, appended, appendedEnd, formless, bytes}
 use Rattle.numerals.proofs.Writing.{hex-length}
 use Rattle.numbers.proofs.RoundTrip.{decimal-length}
-use Rattle.fields.proofs.Buffer.{set-over, append-fits, append-part, length-over, Grown, grown-none, grown}
-use Rattle.packets.specs.Packet.{resumeRead, checksum}
-use Rattle.writer.specs.Front.{front}
-use Rattle.packets.specs.Content.{countedForm, stampData, stampFits, headerData, headerForm, blockForm, isAsked, refusalForm, resumeData, resumeForm, requestForm}
-
--- ---- what is laid into the buffer
-
--- the part from index n on was lent, and bs laid over its beginning: r is the count, and p the part then
-pub lent : (n : ℕ) (bs d p : List ℕ) (r : ℕ) → n + length bs ≤ length d
-    → (r ≡ placedCount bs (midOf n (length d - n) d)) × (p ≡ placed bs (midOf n (length d - n) d))
-    → (r ≡ length bs) × (putMid n (length d - n) d p ≡ over n bs d)
-lent n bs d p r h q =
-    let a = append-part n bs d (length d - n) r p (omega arith) refl (q .0) (q .1) in
-    let f = append-fits n bs d h in
-    (omega (arith, a .0, f .0), a .1 ∙ sym (f .1))
-
-pub over-nothing : (n : ℕ) (d : List ℕ) → d ≡ over n [] d
-unfolding over
-over-nothing n d = sym (rw add-zero (take-append-drop n d))
-
--- one byte stored directly before the bytes that are laid down: d is the buffer at first, and e the buffer now
-pub before : (n v : ℕ) (bs d e : List ℕ) → suc n + length bs ≤ length d → e ≡ over (suc n) bs d → set e n v ≡ over n (v ∷ bs) d
-unfolding over
-before n v bs d e h q =
-    let l : length e ≡ length d = ap length q ∙ length-over (suc n) bs d h in
-    let x = bs ++ drop (suc n + length bs) d in
-    let t : length (take (suc n) d) ≡ suc n = simp length-take (omega arith) in
-    let a : take n (take (suc n) d ++ x) ≡ take n d = take-append-le n (take (suc n) d) x (omega arith) ∙ take-take n (suc n) d (omega arith) in
-    let b : drop (suc n) (take (suc n) d ++ x) ≡ x = drop-at (take (suc n) d) x (suc n) t in
-    let s : n + suc (length bs) ≡ suc n + length bs = omega arith in
-    set-over e n v (omega arith) ∙ rw (q, add-one, a, b, s)
-
--- the two leading bytes a and l, stored before the bytes that are laid down from index 2 on
-pub leads : (a l : ℕ) (bs d e : List ℕ) → 2 + length bs ≤ length d → e ≡ over 2 bs d → set (set e 1 l) 0 a ≡ over 0 (a ∷ l ∷ bs) d
-leads a l bs d e h q = before 0 a (l ∷ bs) d (set e 1 l) (omega arith) (before 1 l bs d e h q)
+use Rattle.fields.proofs.Buffer.{Grown, grown-none, grown}
+use Rattle.packets.specs.Packet.{checksum}
+use Rattle.file_writer.specs.Front.{front}
+use Rattle.packets.specs.Content.{stampData, stampFits, headerData, headerForm, blockForm, resumeData, resumeForm}
 
 pub laid-grown : {a d e : List ℕ} {n : ℕ} → (n ≡ length a) × (e ≡ over 0 a d) → Grown a d e n
 laid-grown q = record { bytes = q .1; count = q .0 }
@@ -82,42 +46,6 @@ module _ (a : List ℕ) (n : ℕ) (d e₁ e₂ e₃ e₄ : List ℕ) (r₁ r₂ 
       let l = decimal-length 7 n (omega arith) (omega arith) in
       let m = length-append a (0 ∷ []) in
       closed (closed (grown-none d) a e₁ e₂ r₁ r₂ (omega arith) p₁ p₂) (decimal n) e₃ e₄ r₃ r₄ (omega arith) p₃ p₄
-
--- ---- CN, TX
-
-pub counted-long : (a : ℕ) (s : List ℕ) → 255 < length s → countedForm a s ≡ formless
-counted-long a s h = rw (lt-leb (length s) 255 h)
-
-pub counted-is : (a : ℕ) (s : List ℕ) → length s ≤ 255 → countedForm a s ≡ bytes (a ∷ length s ∷ s)
-counted-is a s h = rw (le-leb (length s) 255 h)
-
--- ---- NR
-
-pub refusal-asked : (s : List ℕ) → isAsked (resumeRead s) ≡ true → refusalForm s ≡ formless
-unfolding refusalForm
-refusal-asked s e = rw e (neither (leb (length s) 255))
-  where
-    neither : (b : Bool) → formIf (b && false) (0x15 ∷ length s ∷ s) ≡ formless
-    neither true = refl
-    neither false = refl
-
-pub refusal-is : (s : List ℕ) → isAsked (resumeRead s) ≡ false → countedForm 0x15 s ≡ refusalForm s
-unfolding refusalForm
-refusal-is s e = rw e (same (leb (length s) 255))
-  where
-    same : (b : Bool) → formIf b (0x15 ∷ length s ∷ s) ≡ formIf (b && true) (0x15 ∷ length s ∷ s)
-    same true = refl
-    same false = refl
-
--- ---- RI
-
-pub request-long : (s : List ℕ) → 255 < length s → requestForm s ≡ formless
-unfolding requestForm
-request-long s h = rw (lt-leb (length s) 255 h)
-
-pub request-is : (s : List ℕ) → length s ≤ 255 → requestForm s ≡ bytes (5 ∷ 2 ∷ length s ∷ s)
-unfolding requestForm
-request-is s h = rw (le-leb (length s) 255 h)
 
 -- ---- HD
 

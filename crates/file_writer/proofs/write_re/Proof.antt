@@ -7,10 +7,11 @@ use lib.ListN.{length, length-set, length-take, length-drop}
 use borrow.Rule.Slice.PartMut.{same-len-mid}
 use Rattle.fields.proofs.Buffer.{part-over, small, refused, written}
 use Rattle.packets.specs.Content.{resumeData, resumeForm}
-use Rattle.writer.proofs.Forms.{leads, resume-far, resume-is, resume-short}
+use Rattle.text_writer.proofs.Leads.{leads}
+use Rattle.file_writer.proofs.Forms.{resume-far, resume-is, resume-short}
 use borrow.Author.Needs.{needs}
-use Rattle.writer.proofs.write_re.Statement.{statement}
-use Rattle.writer.proofs.write_re.Tie as tie
+use Rattle.file_writer.proofs.write_re.Statement.{statement}
+use Rattle.file_writer.proofs.write_re.Tie as tie
 
 returns : tie.Need-returns
 returns c =

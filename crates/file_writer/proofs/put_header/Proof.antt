@@ -6,10 +6,10 @@ use borrow.Author.Tests.{le-leb}
 use Rattle.numerals.specs.Writing.{hex}
 use Rattle.numerals.proofs.Writing.{hex-length}
 use Rattle.fields.proofs.Buffer.{grown-is}
-use Rattle.writer.proofs.Forms.{closed, laid-grown, front-short, header-stamp, header-plain}
+use Rattle.file_writer.proofs.Forms.{closed, laid-grown, front-short, header-stamp, header-plain}
 use borrow.Author.Needs.{needs}
-use Rattle.writer.proofs.put_header.Statement.{statement}
-use Rattle.writer.proofs.put_header.Tie as tie
+use Rattle.file_writer.proofs.put_header.Statement.{statement}
+use Rattle.file_writer.proofs.put_header.Tie as tie
 
 put-front-requires : tie.Need-put-front-requires
 put-front-requires c κs = search needs

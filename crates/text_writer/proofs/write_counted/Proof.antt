@@ -9,10 +9,11 @@ use borrow.Rule.Slice.PartMut.{putMid, same-len-mid}
 use Rattle.fields.specs.Buffer.{over}
 use Rattle.fields.proofs.Buffer.{small, refused, written}
 use Rattle.packets.specs.Content.{countedForm}
-use Rattle.writer.proofs.Forms.{lent, leads, counted-long, counted-is}
+use Rattle.text_writer.proofs.Leads.{lent, leads}
+use Rattle.text_writer.proofs.Forms.{counted-long, counted-is}
 use borrow.Author.Needs.{needs}
-use Rattle.writer.proofs.write_counted.Statement.{statement}
-use Rattle.writer.proofs.write_counted.Tie as tie
+use Rattle.text_writer.proofs.write_counted.Statement.{statement}
+use Rattle.text_writer.proofs.write_counted.Tie as tie
 
 -- the data in the buffer, behind the leading bytes
 laid : (c : tie.After-slice-known2) → (c .before .before .put-bytes .result ≡ length (now (c .before .before .before .before .before .before .before .before .args .text)))

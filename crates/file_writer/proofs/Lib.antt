@@ -1,0 +1,2 @@
+-- Laws of the forms of packets.
+pub mod Forms

@@ -1,0 +1,113 @@
+// Writes the YAPP packets of a file: HD, DT and RE. The buffer is one of at least 259 bytes. Every byte behind the packet stays,
+// and a refusal leaves all as it was: a buffer under 259 bytes is 20, a packet that has no form is 22.
+use fields::Stamp;
+use fields::Written;
+ghost use mathlib.Core.Path.{_≡_};
+ghost use mathlib.Core.Bool.{true};
+ghost use Prim.Native.Nat.{_≤_};
+ghost use lib.ListN.{length};
+ghost use Rattle.fields.specs.Buffer.{over, writtenOf, leftOf};
+ghost use Rattle.packets.specs.Content.{stampFits, headerData, headerForm, blockForm, resumeData, resumeForm};
+ghost use Rattle.file_writer.specs.Front.{front};
+
+// The least reply buffer.
+const LEAST: usize = 259;
+
+// Lays a 00 n 00 over the beginning of room: so begin the data of HD and of RE.
+fn put_front(room: &mut [u8], a: &[u8], n: u32) -> usize
+    requires { ⌜ (length (now a) ≤ 64) × (n ≤ 99999999) × (257 ≤ length (now room)) ⌝ }
+    ensures { λ r. ⌜ (r ≡ length (front (now (a .entry)) n)) × (now (room .exit) ≡ over 0 (front (now (a .entry)) n) (now (room .entry))) ⌝ }
+{
+    let named = fields::append_bytes(room, 0, a);
+    let at = fields::append_byte(room, named, 0);
+    let sized = numerals::append_decimal(room, at, n as u64);
+    fields::append_byte(room, sized, 0)
+}
+
+// Lays name 00 size 00 option over the beginning of room.
+fn put_header(room: &mut [u8], name: &[u8], size: u32, stamp: Stamp) -> usize
+    requires { ⌜ (length (now name) ≤ 64) × (size ≤ 99999999) × (257 ≤ length (now room)) ⌝ }
+    ensures { λ r. ⌜ (r ≡ length (headerData (now (name .entry)) size stamp)) × (now (room .exit) ≡ over 0 (headerData (now (name .entry)) size stamp) (now (room .entry))) × (stampFits stamp ≡ true) ⌝ }
+{
+    let next = put_front(room, name, size);
+    match stamp {
+        Stamp::Present(v) => {
+            let stamped = numerals::append_hex(room, next, v);
+            fields::append_byte(room, stamped, 0)
+        }
+        Stamp::Absent => next,
+    }
+}
+
+// HD with the name, the size and the stamp.
+pub fn write_hd(reply: &mut [u8], name: &[u8], size: u32, stamp: Stamp) -> Written
+    ensures { λ r. ⌜ (r ≡ writtenOf 259 (headerForm (now (name .entry)) size stamp) (now (reply .entry))) × (now (reply .exit) ≡ leftOf 259 (headerForm (now (name .entry)) size stamp) (now (reply .entry))) ⌝ }
+{
+    if reply.len() < LEAST {
+        return Written::Small;
+    }
+    if fields::is_name(name) {
+        if 99_999_999 < size {
+            return Written::Formless;
+        }
+        let n = put_header(&mut reply[2..], name, size, stamp);
+        reply[1] = n as u8;
+        reply[0] = 1;
+        Written::Bytes(n + 2)
+    } else {
+        Written::Formless
+    }
+}
+
+// DT with 1 to 256 bytes, and behind them their checksum in YappC.
+pub fn write_dt(reply: &mut [u8], block: &[u8], checked: bool) -> Written
+    ensures { λ r. ⌜ (r ≡ writtenOf 259 (blockForm checked (now (block .entry))) (now (reply .entry))) × (now (reply .exit) ≡ leftOf 259 (blockForm checked (now (block .entry))) (now (reply .entry))) ⌝ }
+{
+    if reply.len() < LEAST {
+        return Written::Small;
+    }
+    let count = block.len();
+    if count < 1 {
+        return Written::Formless;
+    }
+    if 256 < count {
+        return Written::Formless;
+    }
+    let n = fields::put_bytes(&mut reply[2..], block);
+    reply[1] = (count % 256) as u8;
+    reply[0] = 2;
+    if checked {
+        let end = fields::append_byte(reply, n + 2, packets::checksum(block));
+        return Written::Bytes(end);
+    }
+    Written::Bytes(n + 2)
+}
+
+// Lays `R` 00 position 00, and with checksums `C` 00, over the beginning of room.
+fn put_resume(room: &mut [u8], position: u32, checked: bool) -> usize
+    requires { ⌜ (position ≤ 99999999) × (257 ≤ length (now room)) ⌝ }
+    ensures { λ r. ⌜ (r ≡ length (resumeData position checked)) × (now (room .exit) ≡ over 0 (resumeData position checked) (now (room .entry))) ⌝ }
+{
+    let next = put_front(room, b"R", position);
+    if checked {
+        let mode = fields::append_byte(room, next, b'C');
+        return fields::append_byte(room, mode, 0);
+    }
+    next
+}
+
+// RE at a position, with `C` where checksums are wanted.
+pub fn write_re(reply: &mut [u8], position: u32, checked: bool) -> Written
+    ensures { λ r. ⌜ (r ≡ writtenOf 259 (resumeForm position checked) (now (reply .entry))) × (now (reply .exit) ≡ leftOf 259 (resumeForm position checked) (now (reply .entry))) ⌝ }
+{
+    if reply.len() < LEAST {
+        return Written::Small;
+    }
+    if 99_999_999 < position {
+        return Written::Formless;
+    }
+    let n = put_resume(&mut reply[2..], position, checked);
+    reply[1] = n as u8;
+    reply[0] = 0x15;
+    Written::Bytes(n + 2)
+}

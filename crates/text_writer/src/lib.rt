@@ -1,0 +1,81 @@
+// Writes the YAPP packets that carry a text: CN, TX, NR and RI. The buffer is one of at least 259 bytes. Every byte behind the
+// packet stays, and a refusal leaves all as it was: a buffer under 259 bytes is 20, a packet that has no form is 22.
+use fields::Written;
+use packets::ResumeRead;
+ghost use mathlib.Core.Path.{_≡_};
+ghost use Rattle.fields.specs.Buffer.{writtenOf, leftOf};
+ghost use Rattle.packets.specs.Packet.{resumeRead};
+ghost use Rattle.packets.specs.Content.{countedForm, isAsked, refusalForm, requestForm};
+
+// The least reply buffer.
+const LEAST: usize = 259;
+
+// First byte, length, data: at most 255 bytes of data, laid down directly behind the two leading bytes.
+fn write_counted(reply: &mut [u8], first: u8, text: &[u8]) -> Written
+    ensures { λ r. ⌜ (r ≡ writtenOf 259 (countedForm first (now (text .entry))) (now (reply .entry))) × (now (reply .exit) ≡ leftOf 259 (countedForm first (now (text .entry))) (now (reply .entry))) ⌝ }
+{
+    if reply.len() < LEAST {
+        return Written::Small;
+    }
+    if 255 < text.len() {
+        return Written::Formless;
+    }
+    let n = fields::put_bytes(&mut reply[2..], text);
+    reply[1] = n as u8;
+    reply[0] = first;
+    Written::Bytes(n + 2)
+}
+
+// CN with a reason.
+pub fn write_cn(reply: &mut [u8], reason: &[u8]) -> Written
+    ensures { λ r. ⌜ (r ≡ writtenOf 259 (countedForm 0x18 (now (reason .entry))) (now (reply .entry))) × (now (reply .exit) ≡ leftOf 259 (countedForm 0x18 (now (reason .entry))) (now (reply .entry))) ⌝ }
+{
+    write_counted(reply, 0x18, reason)
+}
+
+// TX with a text.
+pub fn write_tx(reply: &mut [u8], text: &[u8]) -> Written
+    ensures { λ r. ⌜ (r ≡ writtenOf 259 (countedForm 0x10 (now (text .entry))) (now (reply .entry))) × (now (reply .exit) ≡ leftOf 259 (countedForm 0x10 (now (text .entry))) (now (reply .entry))) ⌝ }
+{
+    write_counted(reply, 0x10, text)
+}
+
+// Whether the data d of a NAK would read as a resume.
+fn is_resume(d: &[u8]) -> bool
+    ensures { λ r. ⌜ r ≡ isAsked (resumeRead (now (d .entry))) ⌝ }
+{
+    match packets::resume_read(d) {
+        ResumeRead::Asked(_) => true,
+        ResumeRead::Nothing => false,
+    }
+}
+
+// NR with a reason. One that would read as a resume has no form.
+pub fn write_nr(reply: &mut [u8], reason: &[u8]) -> Written
+    ensures { λ r. ⌜ (r ≡ writtenOf 259 (refusalForm (now (reason .entry))) (now (reply .entry))) × (now (reply .exit) ≡ leftOf 259 (refusalForm (now (reason .entry))) (now (reply .entry))) ⌝ }
+{
+    if reply.len() < LEAST {
+        return Written::Small;
+    }
+    if is_resume(reason) {
+        return Written::Formless;
+    }
+    write_counted(reply, 0x15, reason)
+}
+
+// RI with a filespec: three leading bytes.
+pub fn write_ri(reply: &mut [u8], filespec: &[u8]) -> Written
+    ensures { λ r. ⌜ (r ≡ writtenOf 259 (requestForm (now (filespec .entry))) (now (reply .entry))) × (now (reply .exit) ≡ leftOf 259 (requestForm (now (filespec .entry))) (now (reply .entry))) ⌝ }
+{
+    if reply.len() < LEAST {
+        return Written::Small;
+    }
+    if 255 < filespec.len() {
+        return Written::Formless;
+    }
+    let n = fields::put_bytes(&mut reply[3..], filespec);
+    reply[2] = n as u8;
+    reply[1] = 2;
+    reply[0] = 5;
+    Written::Bytes(n + 3)
+}
