@@ -1,8 +1,8 @@
 -- `write` writes any element, by its case. Assumes nothing.
-use Rattle.line_writer.proofs.Forms.{owed-basic, owed-ok, owed-name, owed-no, owed-stop, owed-as, owed-none}
+use Rattle.element_writer.proofs.Forms.{owed-basic, owed-ok, owed-name, owed-no, owed-stop, owed-as, owed-none}
 use borrow.Author.Needs.{needs}
-use Rattle.line_writer.proofs.write.Statement.{statement}
-use Rattle.line_writer.proofs.write.Tie as tie
+use Rattle.element_writer.proofs.write.Statement.{statement}
+use Rattle.element_writer.proofs.write.Tie as tie
 
 enum-known-frame : tie.Need-enum-known-frame
 enum-known-frame c = search needs

@@ -1,8 +1,8 @@
 -- `write_extended` writes an extended line. Assumes nothing.
 use Rattle.lines.specs.Element.{contentOf, formOf}
 use borrow.Author.Needs.{needs}
-use Rattle.line_writer.proofs.write_extended.Statement.{statement}
-use Rattle.line_writer.proofs.write_extended.Tie as tie
+use Rattle.element_writer.proofs.write_extended.Statement.{statement}
+use Rattle.element_writer.proofs.write_extended.Tie as tie
 
 bytes-at-requires : tie.Need-bytes-at-requires
 bytes-at-requires c κs = search needs

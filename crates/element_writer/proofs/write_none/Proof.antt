@@ -1,8 +1,8 @@
 -- `write_none` writes nothing. Assumes nothing.
 use mathlib.Core.Path.{refl}
 use Rattle.fields.proofs.Buffer.{small, refused}
-use Rattle.line_writer.proofs.write_none.Statement.{statement}
-use Rattle.line_writer.proofs.write_none.Tie as tie
+use Rattle.element_writer.proofs.write_none.Statement.{statement}
+use Rattle.element_writer.proofs.write_none.Tie as tie
 
 returns : tie.Need-returns
 returns c = small 259 _ _ (c .if1 .taken)

@@ -1,8 +1,8 @@
 -- `write_kept` writes the third OK. Assumes nothing.
 use Rattle.lines.specs.Element.{contentOf, formOf}
 use borrow.Author.Needs.{needs}
-use Rattle.line_writer.proofs.write_kept.Statement.{statement}
-use Rattle.line_writer.proofs.write_kept.Tie as tie
+use Rattle.element_writer.proofs.write_kept.Statement.{statement}
+use Rattle.element_writer.proofs.write_kept.Tie as tie
 
 bytes-at-requires : tie.Need-bytes-at-requires
 bytes-at-requires c κs = search needs
