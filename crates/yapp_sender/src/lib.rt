@@ -440,7 +440,7 @@ fn put_header(m: Sender, checked: bool, reply: &mut [u8]) -> usize
     let name = m.name;
     let all = &name[..];
     let own = fields::part(all, 0, core.named);
-    count(writer::write_hd(reply, own, core.size, stamp))
+    count(file_writer::write_hd(reply, own, core.size, stamp))
 }
 
 // DT with the block of the file from an index on.
@@ -450,7 +450,7 @@ fn put_block(m: Sender, from: usize, checked: bool, file: &[u8], reply: &mut [u8
 {
     let core = m.core;
     let data = fields::part(file, from, core.block);
-    count(writer::write_dt(reply, data, checked))
+    count(file_writer::write_dt(reply, data, checked))
 }
 
 // A packet that carries nothing.

@@ -1,0 +1,96 @@
+-- `sessions` ends: the measure is the number of sessions that are left. The area stays as long as it was. Assumes nothing.
+use mathlib.Core.Path.{_≡_}
+use Prim.Native.Nat.{_-_}
+use lib.ListN.{length}
+use borrow.Author.Needs.{needs}
+use Rattle.transfer.proofs.sessions.Statement.{statement}
+use Rattle.transfer.proofs.sessions.Tie as tie
+
+abbrev Inv-loop : tie.InvT-loop
+Inv-loop own seed name file area₀ bytes₀ state₀ count₀ number₀ area bytes state count number = length area ≡ length area₀
+
+abbrev μ-loop : tie.MeasureT-loop
+μ-loop own seed name file area₀ bytes₀ state₀ count₀ number₀ area bytes state count number = 5 - number
+
+slice-aggregate-bytes : tie.Need-slice-aggregate-bytes Inv-loop μ-loop
+slice-aggregate-bytes c = search needs
+
+next-requires : tie.Need-next-requires Inv-loop μ-loop
+next-requires c κs = search needs
+
+loop-holds : tie.Need-loop-holds Inv-loop μ-loop
+loop-holds c = search needs
+
+add-loop : tie.Need-add-loop Inv-loop μ-loop
+add-loop c = search needs
+
+way-of-requires : tie.Need-way-of-requires Inv-loop μ-loop
+way-of-requires c κs = search needs
+
+next-requires-2 : tie.Need-next-requires-2 Inv-loop μ-loop
+next-requires-2 c κs = search needs
+
+left-of-requires : tie.Need-left-of-requires Inv-loop μ-loop
+left-of-requires c κs = search needs
+
+next-requires-3 : tie.Need-next-requires-3 Inv-loop μ-loop
+next-requires-3 c κs = search needs
+
+print-session-requires : tie.Need-print-session-requires Inv-loop μ-loop
+print-session-requires c κs = search needs
+
+by-requires : tie.Need-by-requires Inv-loop μ-loop
+by-requires c κs = search needs
+
+part-requires : tie.Need-part-requires Inv-loop μ-loop
+part-requires c κs = search needs
+
+print-record-requires : tie.Need-print-record-requires Inv-loop μ-loop
+print-record-requires c κs = search needs
+
+same-length : tie.Need-same-length Inv-loop μ-loop
+same-length c = search needs
+
+returns : tie.Need-returns Inv-loop μ-loop
+returns c = search needs
+
+add-number : tie.Need-add-number Inv-loop μ-loop
+add-number c = search needs
+
+loop-less : tie.Need-loop-less Inv-loop μ-loop
+loop-less c = search needs
+
+loop-again : tie.Need-loop-again Inv-loop μ-loop
+loop-again c = search needs
+
+same-length-2 : tie.Need-same-length-2 Inv-loop μ-loop
+same-length-2 c = search needs
+
+returns-2 : tie.Need-returns-2 Inv-loop μ-loop
+returns-2 c = search needs
+
+pub sessions-spec : {M : Type 1} → statement M
+sessions-spec =
+    tie.close
+    (tie.spec
+    Inv-loop
+    μ-loop
+    slice-aggregate-bytes
+    next-requires
+    loop-holds
+    add-loop
+    way-of-requires
+    next-requires-2
+    left-of-requires
+    next-requires-3
+    print-session-requires
+    by-requires
+    part-requires
+    print-record-requires
+    same-length
+    returns
+    add-number
+    loop-less
+    loop-again
+    same-length-2
+    returns-2)
