@@ -10,6 +10,9 @@ use Rattle.fields.specs.Buffer.{appended}
 use Rattle.fields.specs.declared.Place.{Place}
 use Rattle.fields.specs.declared.Stamp.the-variants.{Absent}
 use Rattle.packets.specs.Content.{Content, rr, rf, af, at, ca, rt, nr, cn, re}
+use Rattle.packets.specs.declared.Header.{Header}
+use Rattle.packets.specs.declared.Block.{Block}
+use Rattle.packets.specs.declared.Resume.{Resume}
 use Rattle.packets.specs.Kind.{Parts}
 use Rattle.calls.specs.declared.Keeping.{Keeping}
 use Rattle.calls.specs.declared.Keeping.the-variants.{Nothing, Of}
@@ -44,6 +47,15 @@ textCarried p = record { place = p; number = 0; flag = false; stamp = Absent }
 
 abbrev pub nothingCarried : Carried
 nothingCarried = textCarried nowhere
+
+abbrev pub headerCarried : Header → Carried
+headerCarried h = record { place = h .name; number = h .size; flag = false; stamp = h .stamp }
+
+abbrev pub blockCarried : Block → Carried
+blockCarried b = record { place = b .place; number = 0; flag = b .sound; stamp = Absent }
+
+abbrev pub resumeCarried : Resume → Carried
+resumeCarried r = record { place = nowhere; number = r .position; flag = r .checked; stamp = Absent }
 
 -- the parts of a packet, its places being in s
 abbrev pub partsBy : List ℕ → ℕ → Carried → Parts

@@ -4,7 +4,10 @@ use calls::Keeping;
 use calls::Outcome;
 use fields::Place;
 use fields::Stamp;
+use packets::Block;
+use packets::Header;
 use packets::Packet;
+use packets::Resume;
 use yapp::ReceiverState;
 use yapp::table;
 ghost use mathlib.Core.Path.{_≡_};
@@ -20,7 +23,7 @@ ghost use Rattle.packets.specs.Content.{contentOf};
 ghost use Rattle.packets.specs.Kind.{partsOf};
 ghost use Rattle.calls.specs.Saving.{savedBy, keptOf, sizeOf};
 ghost use Rattle.yapp.specs.Steps.{leftCW, judgeRecord, judges, judgesParts, stores, endsFile, receiverTakes, receiverTimes, receiverStops};
-ghost use Rattle.yapp_receiving.specs.Receiving.{settingsBy, nowBy, partsBy, reached, reachedBy, nothingCarried, textCarried, stays, failsBy, refusesBy, acceptsBy, keptAt, growsBy, isOpen, Acts};
+ghost use Rattle.yapp_receiving.specs.Receiving.{settingsBy, nowBy, partsBy, reached, reachedBy, nothingCarried, textCarried, headerCarried, blockCarried, resumeCarried, stays, failsBy, refusesBy, acceptsBy, keptAt, growsBy, isOpen, Acts};
 
 // What is sent.
 pub enum Out {
@@ -105,6 +108,43 @@ fn carry_text(place: Place) -> Carried
     }
 }
 
+fn carry_header(header: Header) -> Carried
+    ensures { λ r. ⌜ r ≡ headerCarried header ⌝ }
+{
+    let place = header.name;
+    let stamp = header.stamp;
+    Carried {
+        place,
+        number: header.size,
+        flag: false,
+        stamp,
+    }
+}
+
+fn carry_block(block: Block) -> Carried
+    ensures { λ r. ⌜ r ≡ blockCarried block ⌝ }
+{
+    let place = block.place;
+    Carried {
+        place,
+        number: 0,
+        flag: block.sound,
+        stamp: Stamp::Absent,
+    }
+}
+
+fn carry_resume(resume: Resume) -> Carried
+    ensures { λ r. ⌜ r ≡ resumeCarried resume ⌝ }
+{
+    let place = Place { start: 0, len: 0 };
+    Carried {
+        place,
+        number: resume.position,
+        flag: resume.checked,
+        stamp: Stamp::Absent,
+    }
+}
+
 fn carried_by(packet: Packet) -> Carried
     ensures { λ r. ⌜ ((s : List ℕ) → partsOf (contentOf s packet) ≡ partsBy s (partsOf (contentOf [] packet) .kind) r) ⌝ }
 {
@@ -118,38 +158,13 @@ fn carried_by(packet: Packet) -> Carried
         Packet::RT => nothing,
         Packet::SI => nothing,
         Packet::RI(p) => carry_text(p),
-        Packet::HD(h) => {
-            let place = h.name;
-            let stamp = h.stamp;
-            Carried {
-                place,
-                number: h.size,
-                flag: false,
-                stamp,
-            }
-        }
+        Packet::HD(h) => carry_header(h),
         Packet::Malformed => nothing,
-        Packet::DT(b) => {
-            let place = b.place;
-            Carried {
-                place,
-                number: 0,
-                flag: b.sound,
-                stamp: Stamp::Absent,
-            }
-        }
+        Packet::DT(b) => carry_block(b),
         Packet::EF => nothing,
         Packet::ET => nothing,
         Packet::NR(p) => carry_text(p),
-        Packet::RE(r) => {
-            let place = Place { start: 0, len: 0 };
-            Carried {
-                place,
-                number: r.position,
-                flag: r.checked,
-                stamp: Stamp::Absent,
-            }
-        }
+        Packet::RE(r) => carry_resume(r),
         Packet::CN(p) => carry_text(p),
         Packet::TX(p) => carry_text(p),
         Packet::Dropped(_) => nothing,

@@ -38,11 +38,17 @@ carry-text-requires c κs = search needs
 enum-known-packet-2 : tie.Need-enum-known-packet-2
 enum-known-packet-2 c = search needs
 
+carry-header-requires : tie.Need-carry-header-requires
+carry-header-requires c κs = search needs
+
 enum-told-8 : tie.Need-enum-told-8
 enum-told-8 c = search needs
 
 enum-known-packet-3 : tie.Need-enum-known-packet-3
 enum-known-packet-3 c = search needs
+
+carry-block-requires : tie.Need-carry-block-requires
+carry-block-requires c κs = search needs
 
 enum-told-9 : tie.Need-enum-told-9
 enum-told-9 c = search needs
@@ -58,6 +64,9 @@ carry-text-requires-2 c κs = search needs
 
 enum-known-packet-5 : tie.Need-enum-known-packet-5
 enum-known-packet-5 c = search needs
+
+carry-resume-requires : tie.Need-carry-resume-requires
+carry-resume-requires c κs = search needs
 
 enum-known-packet-6 : tie.Need-enum-known-packet-6
 enum-known-packet-6 c = search needs
@@ -111,7 +120,7 @@ returns-8 c s = rw (c .before .before .packet .given .1, c .carry-text .ensures)
 
 returns-9 : tie.Need-returns-9
 unfolding partsOf contentOf
-returns-9 c s = rw (c .before .before .packet2 .given .1)
+returns-9 c s = rw (c .before .before .packet2 .given .1, c .carry-header .ensures)
 
 returns-10 : tie.Need-returns-10
 unfolding partsOf contentOf
@@ -119,7 +128,7 @@ returns-10 c s = rw (c .enum-told8 .given .1, c .before .before .carry-nothing .
 
 returns-11 : tie.Need-returns-11
 unfolding partsOf contentOf
-returns-11 c s = rw (c .before .before .packet3 .given .1)
+returns-11 c s = rw (c .before .before .packet3 .given .1, c .carry-block .ensures)
 
 returns-12 : tie.Need-returns-12
 unfolding partsOf contentOf
@@ -135,7 +144,7 @@ returns-14 c s = rw (c .before .before .packet4 .given .1, c .carry-text2 .ensur
 
 returns-15 : tie.Need-returns-15
 unfolding partsOf contentOf
-returns-15 c s = rw (c .before .packet5 .given .1)
+returns-15 c s = rw (c .before .before .packet5 .given .1, c .carry-resume .ensures)
 
 returns-16 : tie.Need-returns-16
 unfolding partsOf contentOf
@@ -168,13 +177,16 @@ carried-by-spec =
     enum-known-packet
     carry-text-requires
     enum-known-packet-2
+    carry-header-requires
     enum-told-8
     enum-known-packet-3
+    carry-block-requires
     enum-told-9
     enum-told-10
     enum-known-packet-4
     carry-text-requires-2
     enum-known-packet-5
+    carry-resume-requires
     enum-known-packet-6
     carry-text-requires-3
     enum-known-packet-7
