@@ -3,35 +3,23 @@ use mathlib.Core.Path.{_≡_, refl, sym, ap, _∙_}
 use mathlib.Core.Bool.{Bool}
 use mathlib.Core.List.{List, [], _∷_, append-nil}
 use Prim.Native.Nat.{ℕ, _≤_}
-use native.Mathlib.Omega.{arith}
 use lib.ListN.{length}
-use borrow.Author.Tests.{le-ltb}
 use Rattle.fields.specs.declared.Written.{Written}
-use Rattle.fields.specs.declared.Written.the-variants.{Bytes, Formless}
-use Rattle.fields.specs.Buffer.{Form, formless, bytes, bytesIn, over, writtenOf, leftOf}
+use Rattle.fields.specs.Buffer.{Form, bytesIn, over, writtenOf, leftOf}
 use Rattle.fields.proofs.Buffer.{over-none}
 use Rattle.packets.specs.Content.{Content, formOf}
 use Rattle.yapp.specs.Steps.{writes}
-use Rattle.yapp_sender.specs.declared.Out.{Out}
-use Rattle.yapp_sender.specs.declared.Out.the-variants.{Nothing}
+use Rattle.yapp_sending.specs.declared.Out.{Out}
+use Rattle.yapp_sending.specs.declared.Out.the-variants.{Nothing}
 use Rattle.yapp_sender.specs.declared.Sender.{Sender}
 use Rattle.yapp_sender.specs.Sender.{settingsOf}
-use Rattle.yapp_sender.specs.Acts.{contentsOf, countOf}
+use Rattle.calls.specs.Count.{countOf}
+use Rattle.calls.proofs.Laws.{wrote}
+use Rattle.yapp_sending.specs.Sending.{contentsOf}
 
 -- the bytes b at the front of the buffer d, which is then e; r is how many bytes that are
 abbrev pub Laid : List ℕ → List ℕ → List ℕ → ℕ → Type 0
 Laid b d e r = (r ≡ length b) × (e ≡ over 0 b d)
-
--- a writer that answers w has laid down what its form f has; what has no form is nothing
-wrote : (f : Form) (d e : List ℕ) (w : Written) (r : ℕ) → 259 ≤ length d → r ≡ countOf w → (w ≡ writtenOf 259 f d) × (e ≡ leftOf 259 f d)
-    → Laid (bytesIn f) d e r
-unfolding writtenOf leftOf
-wrote formless d e w r h q p =
-    let a : w ≡ Formless = p .0 ∙ rw (le-ltb (length d) 259 h) in
-    (q ∙ rw a, p .1 ∙ rw (le-ltb (length d) 259 h) (sym (over-none d)))
-wrote (bytes bs) d e w r h q p =
-    let a : w ≡ Bytes (length bs) = p .0 ∙ rw (le-ltb (length d) 259 h) in
-    (q ∙ rw a, p .1 ∙ rw (le-ltb (length d) 259 h))
 
 -- one packet, of the form f
 pub put-one : (k : Bool) (c : Content) (f : Form) (d e : List ℕ) (w : Written) (r : ℕ) → 259 ≤ length d → r ≡ countOf w
@@ -39,7 +27,8 @@ pub put-one : (k : Bool) (c : Content) (f : Form) (d e : List ℕ) (w : Written)
 unfolding writes
 put-one k c f d e w r h n p q =
     let j : writes k (c ∷ []) ≡ bytesIn f = append-nil (bytesIn (formOf k c)) ∙ ap bytesIn (sym q) in
-    rw j (wrote f d e w r h n p)
+    let l = wrote f d e w h p in
+    rw j (n ∙ l .0, l .1)
 
 -- out is the case x
 module _ (m : Sender) (file : List ℕ) (k : Bool) (out : Out) where

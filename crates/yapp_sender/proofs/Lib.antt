@@ -1,4 +1,3 @@
 pub mod Tags
-pub mod Deciding
 pub mod Acting
 pub mod Calls

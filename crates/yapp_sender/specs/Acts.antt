@@ -1,73 +1,16 @@
--- What the code decides before it acts, and the move that this stands for.
+-- The beginning behind the test of the name.
 use Prim.Native.Nat.{ℕ}
-use mathlib.Core.Bool.{Bool, true, false, _&&_}
-use mathlib.Core.List.{List, [], _∷_}
-use lib.ListN.{take, drop}
+use mathlib.Core.Bool.{Bool, _&&_}
+use mathlib.Core.List.{List}
 use lib.Dec.{leb}
 use Rattle.fields.specs.Pick.{pick}
 use Rattle.fields.specs.declared.Stamp.{Stamp}
-use Rattle.fields.specs.declared.Written.{Written}
-use Rattle.fields.specs.declared.Written.the-variants.{Bytes, Small, Formless}
-use Rattle.packets.specs.Content.{Content, ca, si, ef, et, cn, hd, dt}
-use Rattle.packets.specs.Kind.{look}
-use Rattle.calls.specs.declared.Outcome.the-variants.{LengthOutside, BlockOutside, Success, Unexpected, Refused, Cancelled}
-use Rattle.yapp.specs.declared.SenderState.{SenderState}
-use Rattle.yapp.specs.declared.SenderState.the-variants.{SH, SD, ST, CW, Ended}
-use Rattle.yapp.specs.Steps.{SenderSettings, SenderMove, sends, leftBy}
+use Rattle.calls.specs.declared.Outcome.the-variants.{LengthOutside, BlockOutside}
 use Rattle.yapp_sender.specs.declared.Sender.{Sender}
-use Rattle.yapp_sender.specs.declared.Signal.{Signal}
-use Rattle.yapp_sender.specs.declared.Signal.the-variants.{SI, EF, ET, CA, CN}
-use Rattle.yapp_sender.specs.declared.Out.{Out}
-use Rattle.yapp_sender.specs.declared.Out.the-variants.{Nothing, HD, DT, Of}
-use Rattle.yapp_sender.specs.declared.Step.{Step}
 use Rattle.yapp_sender.specs.Sender.{begunSender, refusedBegin}
 
--- the beginning behind the test of the name
 abbrev pub withinLimits : List ℕ → ℕ → ℕ → Stamp → Bool → Sender
 withinLimits name size block stamp resumes =
     pick (leb size 99999999)
     (pick (leb 1 block && leb block 256) (begunSender name size block stamp resumes) (refusedBegin BlockOutside))
     (refusedBegin LengthOutside)
-
--- the packet of a signal
-abbrev pub signalOf : Signal → Content
-signalOf SI = si
-signalOf EF = ef
-signalOf ET = et
-signalOf CA = ca
-signalOf CN = cn []
-
--- the packets that are sent
-abbrev pub contentsOf : SenderSettings → List ℕ → Out → List Content
-contentsOf s file Nothing = []
-contentsOf s file HD = hd (s .name) (s .size) (s .stamp) ∷ []
-contentsOf s file (DT n) = dt (take (s .block) (drop n file)) true ∷ []
-contentsOf s file (Of x) = signalOf x ∷ []
-
-abbrev pub moveOf : SenderSettings → List ℕ → Step → SenderMove
-moveOf s file t = sends (t .state) (t .checked) (contentsOf s file (t .out))
-
--- by the number of an action: where it leads
-unfoldable pub stateBy : SenderState → ℕ → SenderState
-stateBy st n =
-    look n
-    ((1, CW Unexpected) ∷ (2, Ended Refused) ∷ (3, Ended Cancelled) ∷ (4, Ended Success) ∷ (5, leftBy st) ∷ (7, SH) ∷ (8, SD 0) ∷ (9, SD 0)
-    ∷ (11, ST) ∷ [])
-    st
-
--- whether it is in YappC then
-unfoldable pub checkedBy : Bool → ℕ → Bool
-checkedBy k n = look n ((8, false) ∷ (9, true) ∷ []) k
-
--- what is sent
-unfoldable pub outBy : ℕ → Out
-outBy n = look n ((1, Of CN) ∷ (3, Of CA) ∷ (6, Of CA) ∷ (7, HD) ∷ (11, Of ET) ∷ []) Nothing
-
-abbrev pub stepBy : SenderState → Bool → ℕ → Step
-stepBy st k n = record { state = stateBy st n; checked = checkedBy k n; out = outBy n }
-
--- how many bytes were written
-abbrev pub countOf : Written → ℕ
-countOf (Bytes n) = n
-countOf Small = 0
-countOf Formless = 0

@@ -3,14 +3,15 @@ use calls::Outcome;
 use calls::Status;
 use fields::Place;
 use fields::Stamp;
-use fields::Written;
 use packets::Packet;
-use packets::Resume;
 use reader::Reader;
 use reader::Received;
 use spans::Span;
 use yapp::SenderState;
 use yapp::table;
+use yapp_sending::Out;
+use yapp_sending::Signal;
+use yapp_sending::Step;
 ghost use mathlib.Core.Path.{_≡_};
 ghost use mathlib.Core.Bool.{_&&_};
 ghost use mathlib.Core.List.{List, [], _∷_};
@@ -22,14 +23,12 @@ ghost use Rattle.fields.specs.Buffer.{over};
 ghost use Rattle.spans.specs.Span.{sizeOf};
 ghost use Rattle.packets.specs.Packet.{placeOf};
 ghost use Rattle.packets.specs.Content.{contentOf};
-ghost use Rattle.packets.specs.Kind.{RE, partsOf};
 ghost use Rattle.calls.specs.Checks.{checkOf};
-ghost use Rattle.yapp.specs.declared.SenderState.the-variants.{S, CW, Ended};
-ghost use Rattle.yapp.specs.Steps.{writes, SenderSettings, senderResumes, leftBy, senderTakes, sendsBlock, senderLeaves, senderTimes, senderStops, senderEnded};
-ghost use Rattle.yapp_sender.specs.declared.Signal.the-variants.{CN};
-ghost use Rattle.yapp_sender.specs.declared.Out.the-variants.{Nothing, HD, DT, Of};
+ghost use Rattle.yapp.specs.Steps.{writes, senderTakes, senderLeaves, senderEnded};
+ghost use Rattle.yapp_sending.specs.declared.Out.the-variants.{HD, DT};
+ghost use Rattle.yapp_sending.specs.Sending.{contentsOf, signalOf, moveOf};
 ghost use Rattle.yapp_sender.specs.Sender.{refusedBegin, begunSender, begin as beginOf, settingsOf, nowhere, moved as movedOf, replied, isSD, arrived as arrivedOf, transmit as transmitOf, receive as receiveOf, timeout as timeoutOf, cancel as cancelOf};
-ghost use Rattle.yapp_sender.specs.Acts.{withinLimits, contentsOf, signalOf, moveOf, stateBy, checkedBy, outBy, stepBy, countOf};
+ghost use Rattle.yapp_sender.specs.Acts.{withinLimits};
 
 // A sender without its buffers.
 pub struct SenderCore {
@@ -61,35 +60,8 @@ pub struct SenderAnswer {
     pub shown: Place,
 }
 
-// The packets that carry nothing; a CN has no reason.
-enum Signal {
-    SI,
-    EF,
-    ET,
-    CA,
-    CN,
-}
-
-// What is to be sent.
-enum Out {
-    Nothing,
-    HD,
-    // The next block of the file, from this index on.
-    DT { from: usize },
-    Of(Signal),
-}
-
-// What a call does: the state after it, whether it is in YappC then, and what is sent.
-struct Step {
-    state: SenderState,
-    checked: bool,
-    out: Out,
-}
-
-// The number of TX among the kinds, and of resume among the actions.
+// The number of TX among the kinds.
 const TX: usize = 15;
-
-const RESUME: u8 = 10;
 
 // ---- The beginning
 
@@ -150,272 +122,7 @@ fn within(name: &[u8], size: usize, block: usize, stamp: Stamp, resumes: bool) -
     begun(name, size as u32, block, stamp, resumes)
 }
 
-// ---- What a sender does: deciding
-
-// Nothing is sent.
-fn stays(state: SenderState, checked: bool) -> Step
-    ensures { λ r. ⌜ r ≡ record { state = state; checked = checked; out = Nothing } ⌝ }
-{
-    Step {
-        state,
-        checked,
-        out: Out::Nothing,
-    }
-}
-
-// The signal is sent.
-fn sends(state: SenderState, checked: bool, signal: Signal) -> Step
-    ensures { λ r. ⌜ r ≡ record { state = state; checked = checked; out = Of signal } ⌝ }
-{
-    Step {
-        state,
-        checked,
-        out: Out::Of(signal),
-    }
-}
-
-// Abort: CN without reason, and CW.
-fn aborts(outcome: Outcome, checked: bool) -> Step
-    ensures { λ r. ⌜ r ≡ record { state = CW outcome; checked = checked; out = Of CN } ⌝ }
-{
-    sends(SenderState::CW { outcome }, checked, Signal::CN)
-}
-
-// The end is reached.
-fn ends(outcome: Outcome, checked: bool) -> Step
-    ensures { λ r. ⌜ r ≡ record { state = Ended outcome; checked = checked; out = Nothing } ⌝ }
-{
-    stays(SenderState::Ended { outcome }, checked)
-}
-
-// A leave in S: the first gives SI, a later one nothing.
-fn announces(begun: bool, timeouts: u8, checked: bool) -> Step
-    ensures { λ r. ⌜ ((s : SenderSettings) (file : List ℕ) → moveOf s file r ≡ senderLeaves s file (S begun timeouts) checked) ⌝ }
-{
-    let state = SenderState::S {
-        begun: true,
-        timeouts,
-    };
-    if begun {
-        return stays(state, checked);
-    }
-    sends(state, checked, Signal::SI)
-}
-
-// A leave in SD: the next block, or EF after the last.
-fn sends_block(block: usize, file: &[u8], at: u32, checked: bool) -> Step
-    requires { ⌜ length (now file) ≤ 4294967295 ⌝ }
-    ensures { λ r. ⌜ ((s : SenderSettings) → s .block ≡ block → moveOf s (now (file .entry)) r ≡ sendsBlock s (now (file .entry)) at checked) ⌝ }
-{
-    let from = at as usize;
-    if from < file.len() {
-        let next = from + fields::part(file, from, block).len();
-        return Step {
-            state: SenderState::SD { at: next as u32 },
-            checked,
-            out: Out::DT { from },
-        };
-    }
-    sends(SenderState::SE, checked, Signal::EF)
-}
-
-// A chance to send (leave): SI, or the next block of the file.
-fn leaves(state: SenderState, checked: bool, block: usize, file: &[u8]) -> Step
-    requires { ⌜ length (now file) ≤ 4294967295 ⌝ }
-    ensures { λ r. ⌜ ((s : SenderSettings) → s .block ≡ block → moveOf s (now (file .entry)) r ≡ senderLeaves s (now (file .entry)) state checked) ⌝ }
-{
-    match state {
-        SenderState::S { begun, timeouts } => announces(begun, timeouts, checked),
-        SenderState::SD { at } => sends_block(block, file, at, checked),
-        SenderState::SH
-        | SenderState::SE
-        | SenderState::ST
-        | SenderState::CW { .. }
-        | SenderState::Ended { .. } => stays(state, checked),
-    }
-}
-
-// The timer in S: the first three after SI repeat it, the fourth aborts.
-fn repeats(begun: bool, timeouts: u8, checked: bool) -> Step
-    ensures { λ r. ⌜ ((s : SenderSettings) (file : List ℕ) → moveOf s file r ≡ senderTimes (S begun timeouts) checked) ⌝ }
-{
-    if begun {
-        if timeouts < 3 {
-            let state = SenderState::S {
-                begun,
-                timeouts: timeouts + 1,
-            };
-            return sends(state, checked, Signal::SI);
-        }
-        return aborts(Outcome::TimedOut, checked);
-    }
-    stays(SenderState::S { begun, timeouts }, checked)
-}
-
-// The timer ran out.
-fn times(state: SenderState, checked: bool) -> Step
-    ensures { λ r. ⌜ ((s : SenderSettings) (file : List ℕ) → moveOf s file r ≡ senderTimes state checked) ⌝ }
-{
-    match state {
-        SenderState::S { begun, timeouts } => repeats(begun, timeouts, checked),
-        SenderState::SH | SenderState::SE => aborts(Outcome::TimedOut, checked),
-        SenderState::ST => ends(Outcome::Success, checked),
-        SenderState::CW { outcome } => ends(outcome, checked),
-        SenderState::SD { .. } | SenderState::Ended { .. } => stays(state, checked),
-    }
-}
-
-// The operator's stop.
-fn stops(state: SenderState, checked: bool) -> Step
-    ensures { λ r. ⌜ ((s : SenderSettings) (file : List ℕ) → moveOf s file r ≡ senderStops state checked) ⌝ }
-{
-    match state {
-        SenderState::CW { .. } | SenderState::Ended { .. } => Step {
-            state,
-            checked,
-            out: Out::Nothing,
-        },
-        SenderState::S { .. }
-        | SenderState::SH
-        | SenderState::SD { .. }
-        | SenderState::SE
-        | SenderState::ST => aborts(Outcome::Stopped, checked),
-    }
-}
-
-// CW ends with the number that it was entered with.
-fn left_by(state: SenderState) -> SenderState
-    ensures { λ r. ⌜ r ≡ leftBy state ⌝ }
-{
-    if let SenderState::CW { outcome } = state {
-        return SenderState::Ended { outcome };
-    }
-    state
-}
-
-// Where an action leads, by its number in the table.
-fn state_by(state: SenderState, action: u8) -> SenderState
-    ensures { λ r. ⌜ r ≡ stateBy state action ⌝ }
-{
-    match action {
-        1 => SenderState::CW {
-            outcome: Outcome::Unexpected,
-        },
-        2 => SenderState::Ended {
-            outcome: Outcome::Refused,
-        },
-        3 => SenderState::Ended {
-            outcome: Outcome::Cancelled,
-        },
-        4 => SenderState::Ended {
-            outcome: Outcome::Success,
-        },
-        5 => left_by(state),
-        7 => SenderState::SH,
-        8 => SenderState::SD { at: 0 },
-        9 => SenderState::SD { at: 0 },
-        11 => SenderState::ST,
-        _ => state,
-    }
-}
-
-// Whether it is in YappC then.
-fn checked_by(checked: bool, action: u8) -> bool
-    ensures { λ r. ⌜ r ≡ checkedBy checked action ⌝ }
-{
-    match action {
-        8 => false,
-        9 => true,
-        _ => checked,
-    }
-}
-
-// What is sent.
-fn out_by(action: u8) -> Out
-    ensures { λ r. ⌜ r ≡ outBy action ⌝ }
-{
-    match action {
-        1 => Out::Of(Signal::CN),
-        3 => Out::Of(Signal::CA),
-        6 => Out::Of(Signal::CA),
-        7 => Out::HD,
-        11 => Out::Of(Signal::ET),
-        _ => Out::Nothing,
-    }
-}
-
-fn step_by(state: SenderState, checked: bool, action: u8) -> Step
-    ensures { λ r. ⌜ r ≡ stepBy state checked action ⌝ }
-{
-    Step {
-        state: state_by(state, action),
-        checked: checked_by(checked, action),
-        out: out_by(action),
-    }
-}
-
-// RE: with resume off it is 6, past the file 16.
-fn resumes_at(resumes: bool, size: u32, checked: bool, position: u32, flag: bool) -> Step
-    ensures { λ r. ⌜ ((s : SenderSettings) (file : List ℕ) → s .resumes ≡ resumes → s .size ≡ size → moveOf s file r ≡ senderResumes s checked position flag) ⌝ }
-{
-    if resumes {
-        if position <= size {
-            return stays(SenderState::SD { at: position }, flag);
-        }
-        return aborts(Outcome::NotOurs, checked);
-    }
-    aborts(Outcome::Unexpected, checked)
-}
-
-// What RE asks for, of a packet that is an RE.
-fn asked(packet: Packet) -> Resume
-    requires { ⌜ partsOf (contentOf [] packet) .kind ≡ RE ⌝ }
-    ensures { λ r. ⌜ ((bytes : List ℕ) → (partsOf (contentOf bytes packet) .number ≡ r .position) × (partsOf (contentOf bytes packet) .flag ≡ r .checked)) ⌝ }
-{
-    let Packet::RE(r) = packet else {
-        return Resume {
-            position: 0,
-            checked: false,
-        };
-    };
-    r
-}
-
-// A packet that is an RE, in SH.
-fn resumes_by(m: Sender, packet: Packet) -> Step
-    requires { ⌜ partsOf (contentOf [] packet) .kind ≡ RE ⌝ }
-    ensures { λ r. ⌜ ((file bytes : List ℕ) → moveOf (settingsOf m) file r ≡ senderResumes (settingsOf m) (m .reader .checked) (partsOf (contentOf bytes packet) .number) (partsOf (contentOf bytes packet) .flag)) ⌝ }
-{
-    let core = m.core;
-    let r = asked(packet);
-    resumes_at(core.resumes, core.size, m.checked(), r.position, r.checked)
-}
-
-// A packet of this kind has come.
-fn takes(m: Sender, kind: usize, packet: Packet) -> Step
-    requires { ⌜ kind ≡ partsOf (contentOf [] packet) .kind ⌝ }
-    ensures { λ r. ⌜ ((file bytes : List ℕ) → moveOf (settingsOf m) file r ≡ senderTakes (settingsOf m) (m .core .state) (m .reader .checked) (contentOf bytes packet)) ⌝ }
-{
-    let state = m.state();
-    let action = table::send_action(state, kind);
-    if action == RESUME {
-        return resumes_by(m, packet);
-    }
-    step_by(state, m.checked(), action)
-}
-
 // ---- Acting
-
-// How many bytes were written.
-fn count(written: Written) -> usize
-    ensures { λ r. ⌜ r ≡ countOf written ⌝ }
-{
-    match written {
-        Written::Bytes(n) => n,
-        Written::Small => 0,
-        Written::Formless => 0,
-    }
-}
 
 // The packet of a signal.
 fn packet_by(signal: Signal) -> Packet
@@ -440,7 +147,7 @@ fn put_header(m: Sender, checked: bool, reply: &mut [u8]) -> usize
     let name = m.name;
     let all = &name[..];
     let own = fields::part(all, 0, core.named);
-    count(file_writer::write_hd(reply, own, core.size, stamp))
+    calls::count(file_writer::write_hd(reply, own, core.size, stamp))
 }
 
 // DT with the block of the file from an index on.
@@ -450,7 +157,7 @@ fn put_block(m: Sender, from: usize, checked: bool, file: &[u8], reply: &mut [u8
 {
     let core = m.core;
     let data = fields::part(file, from, core.block);
-    count(file_writer::write_dt(reply, data, checked))
+    calls::count(file_writer::write_dt(reply, data, checked))
 }
 
 // A packet that carries nothing.
@@ -458,7 +165,7 @@ fn put_signal(signal: Signal, checked: bool, reply: &mut [u8]) -> usize
     requires { ⌜ 259 ≤ length (now reply) ⌝ }
     ensures { λ r. ⌜ (r ≡ length (writes checked (signalOf signal ∷ []))) × (now (reply .exit) ≡ over 0 (writes checked (signalOf signal ∷ [])) (now (reply .entry))) ⌝ }
 {
-    count(writer::write(packet_by(signal), b"", checked, reply))
+    calls::count(writer::write(packet_by(signal), b"", checked, reply))
 }
 
 // Lays what is sent into the reply buffer, and returns how many bytes that are.
@@ -620,7 +327,15 @@ fn left(m: Sender, file: &[u8]) -> Step
     ensures { λ r. ⌜ moveOf (settingsOf m) (now (file .entry)) r ≡ senderLeaves (settingsOf m) (now (file .entry)) (m .core .state) (m .reader .checked) ⌝ }
 {
     let core = m.core;
-    leaves(m.state(), m.checked(), core.block, file)
+    yapp_sending::leaves(m.state(), m.checked(), core.block, file)
+}
+
+// What a packet does to the sender.
+fn took(m: Sender, packet: Packet) -> Step
+    ensures { λ r. ⌜ ((file bytes : List ℕ) → moveOf (settingsOf m) file r ≡ senderTakes (settingsOf m) (m .core .state) (m .reader .checked) (contentOf bytes packet)) ⌝ }
+{
+    let core = m.core;
+    yapp_sending::takes(core.resumes, core.size, m.state(), m.checked(), packet)
 }
 
 // What arrived is acted on.
@@ -632,7 +347,7 @@ fn arrived(m: Sender, got: Received, file: &[u8], reply: &mut [u8]) -> SenderAns
     let packet = got.packet;
     let kind = table::kind_of(packet);
     let shown = shown_in(m.state(), kind, got);
-    let step = takes(m, kind, packet);
+    let step = took(m, packet);
     answered(m, reader, got.taken, shown, step, file, reply)
 }
 
@@ -708,7 +423,7 @@ impl Sender {
     {
         let status = check(self, file.len(), reply.len());
         if calls::is_taken(status) {
-            let step = times(self.state(), self.checked());
+            let step = yapp_sending::times(self.state(), self.checked());
             return settled(self, step, file, reply);
         }
         refused(self, status)
@@ -720,7 +435,7 @@ impl Sender {
     {
         let status = check(self, file.len(), reply.len());
         if calls::is_taken(status) {
-            let step = stops(self.state(), self.checked());
+            let step = yapp_sending::stops(self.state(), self.checked());
             return settled(self, step, file, reply);
         }
         refused(self, status)

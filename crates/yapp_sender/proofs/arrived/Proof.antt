@@ -15,8 +15,8 @@ state-requires c κs = search needs
 shown-in-requires : tie.Need-shown-in-requires
 shown-in-requires c κs = search needs
 
-takes-requires : tie.Need-takes-requires
-takes-requires c κs = search needs
+took-requires : tie.Need-took-requires
+took-requires c κs = search needs
 
 answered-requires : tie.Need-answered-requires
 answered-requires c κs = search needs
@@ -27,7 +27,7 @@ same-length c = search needs
 returns : tie.Need-returns
 returns c =
     let a = c .before .before .before .before .before .before .before .before .before .before .before .args in
-    call-arrived (a .m) (a .got) (now (a .reply)) _ _ _ _ (c .before .before .before .before .before .before .before .kind-of .ensures) (c .before .before .before .before .before .shown-in .ensures ∙ rw (c .before .before .before .before .before .before .state .ensures)) (c .before .before .before .before .takes .ensures (now (a .file)) (a .got .reader .pending)) (c .before .before .answered .ensures)
+    call-arrived (a .m) (a .got) (now (a .reply)) _ _ _ _ (c .before .before .before .before .before .before .before .kind-of .ensures) (c .before .before .before .before .before .shown-in .ensures ∙ rw (c .before .before .before .before .before .before .state .ensures)) (c .before .before .before .before .took .ensures (now (a .file)) (a .got .reader .pending)) (c .before .before .answered .ensures)
 
 pub arrived-spec : {M : Type 1} → statement M
 arrived-spec =
@@ -36,7 +36,7 @@ arrived-spec =
     kind-of-requires
     state-requires
     shown-in-requires
-    takes-requires
+    took-requires
     answered-requires
     same-length
     returns)

@@ -14,7 +14,7 @@ leaves-requires : tie.Need-leaves-requires
 leaves-requires c κs = search needs
 
 returns : tie.Need-returns
-returns c = c .leaves .ensures _ refl ∙ rw (c .before .before .state .ensures, c .before .checked .ensures)
+returns c = c .leaves .ensures _ refl (c .before .before .before .before .before .pre) ∙ rw (c .before .before .state .ensures, c .before .checked .ensures)
 
 pub left-spec : {M : Type 1} → statement M
 left-spec = tie.close (tie.spec state-requires checked-requires leaves-requires returns)
