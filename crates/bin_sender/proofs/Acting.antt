@@ -5,10 +5,8 @@ use mathlib.Core.List.{List, [], _∷_, append-nil}
 use Prim.Native.Nat.{ℕ, _≤_}
 use native.Mathlib.Omega.{arith}
 use lib.ListN.{length, take}
-use borrow.Author.Tests.{le-ltb}
 use Rattle.fields.specs.declared.Written.{Written}
-use Rattle.fields.specs.declared.Written.the-variants.{Bytes, Formless}
-use Rattle.fields.specs.Buffer.{Form, formless, bytes, bytesIn, over, appended, appendedEnd, writtenOf, leftOf}
+use Rattle.fields.specs.Buffer.{Form, bytesIn, over, appended, appendedEnd, writtenOf, leftOf}
 use Rattle.fields.proofs.Buffer.{over-none, append-fits}
 use Rattle.crc.specs.Crc.{crcOf}
 use Rattle.lines.specs.Element.{basicForm, lineForm, formOf}
@@ -17,22 +15,18 @@ use Rattle.bin.specs.Steps.{joined, lineOf}
 use Rattle.bin_sender.specs.declared.Out.{Out}
 use Rattle.bin_sender.specs.declared.Sender.{Sender}
 use Rattle.bin_sender.specs.Sender.{settingsOf}
-use Rattle.bin_sender.specs.Acts.{framesOf, countOf}
+use Rattle.calls.specs.Count.{countOf}
+use Rattle.calls.proofs.Laws.{wrote as laid}
+use Rattle.bin_sender.specs.Acts.{framesOf}
 
 -- the frame b at the front of the buffer d, which is then e; r is how many bytes that are
 abbrev pub Laid : List ℕ → List ℕ → List ℕ → ℕ → Type 0
 Laid b d e r = (r ≡ length b) × (e ≡ over 0 b d)
 
--- a writer that answers w has laid down what its form f has; what has no form is nothing
+-- a writer that answers w has laid down what its form f has
 pub wrote : (b : List ℕ) (f : Form) (d e : List ℕ) (w : Written) (r : ℕ) → b ≡ bytesIn f → 259 ≤ length d → r ≡ countOf w
     → (w ≡ writtenOf 259 f d) × (e ≡ leftOf 259 f d) → Laid b d e r
-unfolding writtenOf leftOf
-wrote b formless d e w r l h q p =
-    let a : w ≡ Formless = p .0 ∙ rw (le-ltb (length d) 259 h) in
-    rw l (q ∙ rw a, p .1 ∙ rw (le-ltb (length d) 259 h) (sym (over-none d)))
-wrote b (bytes bs) d e w r l h q p =
-    let a : w ≡ Bytes (length bs) = p .0 ∙ rw (le-ltb (length d) 259 h) in
-    rw l (q ∙ rw a, p .1 ∙ rw (le-ltb (length d) 259 h))
+wrote b f d e w r l h q p = let z = laid f d e w h p in rw l (q ∙ z .0, z .1)
 
 -- a frame of the file
 pub copied : (b frame d e : List ℕ) (r : ℕ) → frame ≡ b → length b ≤ length d → (r ≡ appendedEnd 0 frame d) × (e ≡ appended 0 frame d)

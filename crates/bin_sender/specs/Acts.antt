@@ -2,8 +2,6 @@
 use Prim.Native.Nat.{ℕ}
 use mathlib.Core.List.{List, [], _∷_}
 use lib.ListN.{drop}
-use Rattle.fields.specs.declared.Written.{Written}
-use Rattle.fields.specs.declared.Written.the-variants.{Bytes, Small, Formless}
 use Rattle.lines.specs.Frame.{stopFrame}
 use Rattle.bin.specs.Steps.{cut, SenderMove, goes, lineOf}
 use Rattle.bin_sender.specs.declared.Out.{Out}
@@ -21,9 +19,3 @@ framesOf m file Stop = stopFrame ∷ []
 
 abbrev pub moveOf : Sender → List ℕ → Step → SenderMove
 moveOf m file s = goes (s .state) (framesOf m file (s .out))
-
--- how many bytes were written
-abbrev pub countOf : Written → ℕ
-countOf (Bytes n) = n
-countOf Small = 0
-countOf Formless = 0

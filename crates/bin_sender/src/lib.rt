@@ -3,7 +3,6 @@ use bin::Announce;
 use bin::SenderState;
 use calls::Outcome;
 use calls::Status;
-use fields::Written;
 use lines::Frame;
 ghost use mathlib.Core.Path.{_≡_};
 ghost use mathlib.Core.Bool.{_&&_};
@@ -20,7 +19,7 @@ ghost use Rattle.bin.specs.Steps.{heard, joined, cut as cutOf, lineOf, sendsFro
 ghost use Rattle.bin_sender.specs.declared.Sender.{Sender as SenderOf};
 ghost use Rattle.bin_sender.specs.declared.Out.the-variants.{Nothing, Stop};
 ghost use Rattle.bin_sender.specs.Sender.{senderWith, refusedBegin, within as withinOf, begin as beginOf, beginBasic, blockOf, settingsOf, statusOf, replied, unlessRefused, transmit as transmitOf, receive as receiveOf, timeout as timeoutOf, cancel as cancelOf};
-ghost use Rattle.bin_sender.specs.Acts.{framesOf, moveOf, countOf};
+ghost use Rattle.bin_sender.specs.Acts.{framesOf, moveOf};
 
 pub struct SenderCore {
     state: SenderState,
@@ -304,17 +303,6 @@ fn fails(outcome: Outcome, state: SenderState) -> Step
 
 // ---- Acting
 
-// How many bytes were written.
-fn count(written: Written) -> usize
-    ensures { λ r. ⌜ r ≡ countOf written ⌝ }
-{
-    match written {
-        Written::Bytes(n) => n,
-        Written::Small => 0,
-        Written::Formless => 0,
-    }
-}
-
 // The line is the frame.
 fn put_line(m: Sender, file: &[u8], reply: &mut [u8]) -> usize
     requires { ⌜ 259 ≤ length (now reply) ⌝ }
@@ -325,11 +313,11 @@ fn put_line(m: Sender, file: &[u8], reply: &mut [u8]) -> usize
     let name = m.name;
     let all = &name[..];
     match announce {
-        Announce::Basic => count(line_writer::write_basic(reply, core.size)),
+        Announce::Basic => calls::count(line_writer::write_basic(reply, core.size)),
         Announce::Extended { stamp, resumes } => {
             let crc = crc::crc_of(file);
             let own = fields::part(all, 0, core.named);
-            count(line_writer::write_line(reply, core.size, crc, stamp, resumes, own))
+            calls::count(line_writer::write_line(reply, core.size, crc, stamp, resumes, own))
         }
     }
 }
@@ -347,7 +335,7 @@ fn put_stop(reply: &mut [u8]) -> usize
     requires { ⌜ 259 ≤ length (now reply) ⌝ }
     ensures { λ r. ⌜ (r ≡ length stopFrame) × (now (reply .exit) ≡ over 0 stopFrame (now (reply .entry))) ⌝ }
 {
-    count(line_writer::write_stop(reply))
+    calls::count(line_writer::write_stop(reply))
 }
 
 // Lays what is sent into the reply buffer, and returns how many bytes that are.
