@@ -1,16 +1,16 @@
 // A #BIN# sender and a #BIN# receiver, and the link between them, which carries a frame whole or not at all.
+use crate::link;
+use crate::link::Link;
 use crate::text;
 use bin::ReceiverState;
 use bin::SenderState;
 use bin_receiver::Receiver;
 use bin_sender::Sender;
 
-pub struct Ends {
-    pub sender: Sender,
-    pub receiver: Receiver,
-    // How many bytes the link carries before it breaks.
-    pub left: usize,
-    pub broken: bool,
+struct Ends {
+    sender: Sender,
+    receiver: Receiver,
+    link: Link,
 }
 
 // What an end did with a frame: how many bytes it answers with.
@@ -44,49 +44,42 @@ fn receiver_moved(before: ReceiverState, after: ReceiverState) {
 fn with_sender(e: Ends, sender: Sender) -> Ends {
     let receiver = e.receiver;
     let before = e.sender;
+    let link = e.link;
     sender_moved(before.state(), sender.state());
     Ends {
         sender,
         receiver,
-        left: e.left,
-        broken: e.broken,
+        link,
     }
 }
 
 fn with_receiver(e: Ends, receiver: Receiver) -> Ends {
     let sender = e.sender;
     let before = e.receiver;
+    let link = e.link;
     receiver_moved(before.state(), receiver.state());
     Ends {
         sender,
         receiver,
-        left: e.left,
-        broken: e.broken,
+        link,
     }
 }
 
+// n bytes were sent over the link.
 fn carried(e: Ends, n: usize) -> Ends {
     let sender = e.sender;
     let receiver = e.receiver;
-    if n <= e.left {
-        return Ends {
-            sender,
-            receiver,
-            left: e.left - n,
-            broken: e.broken,
-        };
-    }
+    let used = e.link;
     Ends {
         sender,
         receiver,
-        left: 0,
-        broken: true,
+        link: link::after(used, n),
     }
 }
 
 // All of a frame passes, or none of it.
-fn passed_of(e: Ends, n: usize) -> usize {
-    if n <= e.left { n } else { 0 }
+fn passed_of(link: Link, n: usize) -> usize {
+    if n <= link.left { n } else { 0 }
 }
 
 // Whether the sender's next frame is of the file.
@@ -95,7 +88,8 @@ fn is_sending(state: SenderState) -> bool {
 }
 
 fn to_receiver(e: Ends, is_data: bool, bytes: &[u8], area: &mut [u8], back: &mut [u8]) -> Hop {
-    let passed = passed_of(e, bytes.len());
+    let over = e.link;
+    let passed = passed_of(over, bytes.len());
     if is_data {
         text::data(b"> ", bytes, passed);
     } else {
@@ -112,7 +106,8 @@ fn to_receiver(e: Ends, is_data: bool, bytes: &[u8], area: &mut [u8], back: &mut
 
 fn to_sender(e: Ends, bytes: &[u8], file: &[u8], there: &mut [u8]) -> Ends {
     let sender = e.sender;
-    let passed = passed_of(e, bytes.len());
+    let over = e.link;
+    let passed = passed_of(over, bytes.len());
     text::frame(b"< ", bytes, passed);
     let a = sender.receive(fields::part(bytes, 0, passed), file, there);
     let next = a.sender;
@@ -124,7 +119,8 @@ fn answered(hop: Hop, file: &[u8], there: &mut [u8], back: &[u8]) -> Ends {
     if hop.sent == 0 {
         return ends;
     }
-    if ends.broken {
+    let over = ends.link;
+    if over.broken {
         return ends;
     }
     to_sender(ends, fields::part(back, 0, hop.sent), file, there)
@@ -149,12 +145,13 @@ fn turn(e: Ends, file: &[u8], area: &mut [u8]) -> Ends {
     answered(hop, file, there, back)
 }
 
-pub fn is_ended(state: ReceiverState) -> bool {
+fn is_ended(state: ReceiverState) -> bool {
     text::bin_receiver_number(state) == 6
 }
 
 fn is_over(e: Ends) -> bool {
-    if e.broken {
+    let over = e.link;
+    if over.broken {
         return true;
     }
     let receiver = e.receiver;
@@ -211,8 +208,10 @@ pub fn session(
     let start = Ends {
         sender: Sender::begin(name, file.len(), 256, stamp, true),
         receiver,
-        left,
-        broken: false,
+        link: Link {
+            left,
+            broken: false,
+        },
     };
     let met = turns(start, file, area);
     let settled = receiver_ends(sender_ends(met, file), area);

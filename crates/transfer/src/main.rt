@@ -4,13 +4,13 @@
 //     transfer [PATH [SEED]]
 use calls::RecordAnswer;
 use fields::Stamp;
-use fields::Written;
 use text::print;
 use text::print_number;
 ghost use mathlib.Core.Path.{_≡_};
 ghost use lib.ListN.{length};
 
 mod bin_link;
+mod link;
 mod text;
 mod yapp_link;
 
@@ -90,11 +90,7 @@ fn print_way(way: Way) {
 fn count_of(answer: RecordAnswer) -> usize {
     match answer {
         RecordAnswer::NoRecord => 0,
-        RecordAnswer::Record(written) => match written {
-            Written::Bytes(n) => n,
-            Written::Small => 0,
-            Written::Formless => 0,
-        },
+        RecordAnswer::Record(written) => calls::count(written),
     }
 }
 
@@ -300,17 +296,23 @@ fn run(path: &[u8], seed: u64) {
     all_ways(path, seed, fields::part(buf, 0, n));
 }
 
-// The seed is a decimal number; what is none is 1.
-fn seed_of(text: &[u8]) -> u64 {
-    match numbers::read_size(text) {
-        numbers::Number::Value(n) => n as u64,
-        numbers::Number::Malformed => 1,
-    }
-}
-
 // The sample, from the root of the repository.
 fn run_sample(seed: u64) {
     run(b"crates/transfer/data/bag-reads.csv", seed);
+}
+
+// The seed is a decimal number, 1 where none is given.
+fn start(words: usize, path: &[u8], seed: &[u8]) {
+    if words < 2 {
+        return run_sample(1);
+    }
+    if words < 3 {
+        return run(path, 1);
+    }
+    match numbers::read_size(seed) {
+        numbers::Number::Value(n) => run(path, n as u64),
+        numbers::Number::Malformed => say(b": a seed is a number of at most 8 digits\n", seed),
+    }
 }
 
 fn main() {
@@ -319,9 +321,5 @@ fn main() {
     let text: &mut [u8] = &mut word;
     let named = os::arg(1, &mut path);
     let n = os::arg(2, text);
-    let seed = seed_of(fields::part(text, 0, n));
-    if named == 0 {
-        return run_sample(seed);
-    }
-    run(&path[..named], seed);
+    start(os::arg_count(), &path[..named], fields::part(text, 0, n));
 }

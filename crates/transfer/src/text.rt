@@ -18,7 +18,7 @@ pub fn print_number(label: &[u8], n: usize) {
 }
 
 // Document 01's number of an outcome, and its words.
-pub fn print_outcome(outcome: Outcome) {
+fn print_outcome(outcome: Outcome) {
     match outcome {
         Outcome::Success => print(b"0 success"),
         Outcome::RecordUnreadable => print(b"1 record unreadable"),

@@ -1,4 +1,6 @@
 // A YAPP sender and a YAPP receiver, and the link between them.
+use crate::link;
+use crate::link::Link;
 use crate::text;
 use fields::Stamp;
 use yapp::ReceiverState;
@@ -6,12 +8,10 @@ use yapp::SenderState;
 use yapp_receiver::Receiver;
 use yapp_sender::Sender;
 
-pub struct Ends {
-    pub sender: Sender,
-    pub receiver: Receiver,
-    // How many bytes the link carries before it breaks.
-    pub left: usize,
-    pub broken: bool,
+struct Ends {
+    sender: Sender,
+    receiver: Receiver,
+    link: Link,
 }
 
 // What an end did with a packet: how many bytes it answers with.
@@ -45,55 +45,49 @@ fn receiver_moved(before: ReceiverState, after: ReceiverState) {
 fn with_sender(e: Ends, sender: Sender) -> Ends {
     let receiver = e.receiver;
     let before = e.sender;
+    let link = e.link;
     sender_moved(before.state(), sender.state());
     Ends {
         sender,
         receiver,
-        left: e.left,
-        broken: e.broken,
+        link,
     }
 }
 
 fn with_receiver(e: Ends, receiver: Receiver) -> Ends {
     let sender = e.sender;
     let before = e.receiver;
+    let link = e.link;
     receiver_moved(before.state(), receiver.state());
     Ends {
         sender,
         receiver,
-        left: e.left,
-        broken: e.broken,
+        link,
     }
 }
 
-// The link carries n bytes, or as many as it does before it breaks.
+// n bytes were sent over the link.
 fn carried(e: Ends, n: usize) -> Ends {
     let sender = e.sender;
     let receiver = e.receiver;
-    if n <= e.left {
-        return Ends {
-            sender,
-            receiver,
-            left: e.left - n,
-            broken: e.broken,
-        };
-    }
+    let used = e.link;
     Ends {
         sender,
         receiver,
-        left: 0,
-        broken: true,
+        link: link::after(used, n),
     }
 }
 
-fn passed_of(e: Ends, n: usize) -> usize {
-    if n <= e.left { n } else { e.left }
+// How many of n bytes pass.
+fn passed_of(link: Link, n: usize) -> usize {
+    if n <= link.left { n } else { link.left }
 }
 
 fn to_receiver(e: Ends, bytes: &[u8], area: &mut [u8], back: &mut [u8]) -> Hop {
     let sender = e.sender;
     let receiver = e.receiver;
-    let passed = passed_of(e, bytes.len());
+    let over = e.link;
+    let passed = passed_of(over, bytes.len());
     text::packet(b"> ", bytes, sender.checked(), passed);
     let a = receiver.receive(fields::part(bytes, 0, passed), area, back);
     let next = a.receiver;
@@ -105,7 +99,8 @@ fn to_receiver(e: Ends, bytes: &[u8], area: &mut [u8], back: &mut [u8]) -> Hop {
 
 fn to_sender(e: Ends, bytes: &[u8], file: &[u8], there: &mut [u8]) -> Hop {
     let sender = e.sender;
-    let passed = passed_of(e, bytes.len());
+    let over = e.link;
+    let passed = passed_of(over, bytes.len());
     text::packet(b"< ", bytes, sender.checked(), passed);
     let a = sender.receive(fields::part(bytes, 0, passed), file, there);
     let next = a.sender;
@@ -121,7 +116,8 @@ fn round_trip(hop: Hop, file: &[u8], area: &mut [u8], there: &mut [u8], back: &m
     if hop.sent == 0 {
         return hop;
     }
-    if start.broken {
+    let before = start.link;
+    if before.broken {
         return hop;
     }
     let met = to_receiver(start, fields::part(there, 0, hop.sent), area, back);
@@ -129,7 +125,8 @@ fn round_trip(hop: Hop, file: &[u8], area: &mut [u8], there: &mut [u8], back: &m
     if met.sent == 0 {
         return met;
     }
-    if ends.broken {
+    let over = ends.link;
+    if over.broken {
         return Hop { ends, sent: 0 };
     }
     to_sender(ends, fields::part(back, 0, met.sent), file, there)
@@ -153,12 +150,13 @@ fn turn(e: Ends, file: &[u8], area: &mut [u8]) -> Ends {
     third.ends
 }
 
-pub fn is_ended(state: ReceiverState) -> bool {
+fn is_ended(state: ReceiverState) -> bool {
     text::receiver_number(state) == 6
 }
 
 fn is_over(e: Ends) -> bool {
-    if e.broken {
+    let over = e.link;
+    if over.broken {
         return true;
     }
     let receiver = e.receiver;
@@ -227,8 +225,10 @@ pub fn session(
     let start = Ends {
         sender: Sender::begin(name, file.len(), 256, stamp, true),
         receiver,
-        left,
-        broken: false,
+        link: Link {
+            left,
+            broken: false,
+        },
     };
     let met = turns(start, file, area);
     let settled = receiver_ends(sender_ends(met, file), area);
