@@ -189,7 +189,7 @@ fn print_frame(frame: Frame) {
 // A frame on its way that is not of the file.
 pub fn frame(arrow: &[u8], bytes: &[u8], passed: usize) {
     print(arrow);
-    print_frame(lines::frame_of(bytes));
+    print_frame(line_reader::frame_of(bytes));
     print_length(bytes.len(), passed);
 }
 
