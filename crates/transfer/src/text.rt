@@ -166,7 +166,7 @@ fn print_length(n: usize, passed: usize) {
 // A packet on its way.
 pub fn packet(arrow: &[u8], bytes: &[u8], checked: bool, passed: usize) {
     print(arrow);
-    print_packet(packets::packet_of(bytes, checked));
+    print_packet(packet_reader::packet_of(bytes, checked));
     print_length(bytes.len(), passed);
 }
 
