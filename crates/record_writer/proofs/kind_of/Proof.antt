@@ -1,9 +1,9 @@
 -- `kind_of` goes by the stamp. Assumes nothing.
 use mathlib.Core.Path.{sym, ap}
 use Rattle.records.specs.Saved.{kindOf}
 use borrow.Author.Needs.{needs}
-use Rattle.records.proofs.kind_of.Statement.{statement}
-use Rattle.records.proofs.kind_of.Tie as tie
+use Rattle.record_writer.proofs.kind_of.Statement.{statement}
+use Rattle.record_writer.proofs.kind_of.Tie as tie
 
 enum-told : tie.Need-enum-told
 enum-told c = search needs

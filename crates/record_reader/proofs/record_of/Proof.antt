@@ -2,11 +2,11 @@
 use mathlib.Core.Path.{sym, ap, _∙_}
 use Prim.Native.Nat.{ℕ, _+_}
 use denote.Ref.{now}
 use Rattle.records.specs.Record.{kindRead}
 use Rattle.records.proofs.Laws.{length-right, length-wrong}
 use borrow.Author.Needs.{needs}
-use Rattle.records.proofs.record_of.Statement.{statement}
-use Rattle.records.proofs.record_of.Tie as tie
+use Rattle.record_reader.proofs.record_of.Statement.{statement}
+use Rattle.record_reader.proofs.record_of.Tie as tie
 
 number-at-requires : tie.Need-number-at-requires
 number-at-requires c κs = search needs

@@ -1,10 +1,11 @@
 -- `put_record` writes the fields one after the other. Assumes nothing.
 use native.Mathlib.Omega.{arith}
 use denote.Ref.{now}
-use Rattle.records.proofs.Laws.{stamp-length, put-all}
+use Rattle.records.proofs.Laws.{stamp-length}
+use Rattle.record_writer.proofs.Fields.{put-all}
 use borrow.Author.Needs.{needs}
-use Rattle.records.proofs.put_record.Statement.{statement}
-use Rattle.records.proofs.put_record.Tie as tie
+use Rattle.record_writer.proofs.put_record.Statement.{statement}
+use Rattle.record_writer.proofs.put_record.Tie as tie
 
 count-of-requires : tie.Need-count-of-requires
 count-of-requires c κs = search needs

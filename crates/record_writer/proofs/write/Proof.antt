@@ -5,11 +5,11 @@ use native.Mathlib.Omega.{arith}
 use denote.Ref.{now}
 use Rattle.fields.proofs.Lists.{name-length}
 use Rattle.fields.proofs.Buffer.{small, refused, written}
 use Rattle.records.specs.Saved.{saved, recordForm}
 use Rattle.records.proofs.Laws.{form-not, form-high, form-good}
 use borrow.Author.Needs.{needs}
-use Rattle.records.proofs.write.Statement.{statement}
-use Rattle.records.proofs.write.Tie as tie
+use Rattle.record_writer.proofs.write.Statement.{statement}
+use Rattle.record_writer.proofs.write.Tie as tie
 
 returns : tie.Need-returns
 returns c =

@@ -1,9 +1,9 @@
 -- `count_of` counts the bytes of all fields but the length. Assumes nothing.
 use native.Mathlib.Omega.{arith}
 use Rattle.records.proofs.Laws.{stamp-present, stamp-absent}
 use borrow.Author.Needs.{needs}
-use Rattle.records.proofs.count_of.Statement.{statement}
-use Rattle.records.proofs.count_of.Tie as tie
+use Rattle.record_writer.proofs.count_of.Statement.{statement}
+use Rattle.record_writer.proofs.count_of.Tie as tie
 
 enum-told : tie.Need-enum-told
 enum-told c = search needs

@@ -3,11 +3,11 @@ use mathlib.Core.Path.{sym, ap, _∙_}
 use Prim.Native.Nat.{ℕ}
 use denote.Ref.{now}
 use Rattle.fields.specs.declared.Stamp.the-variants.{Present}
 use Rattle.records.specs.Record.{namedAt}
 use Rattle.records.proofs.Laws.{kind-one, kind-two, kind-other}
 use borrow.Author.Needs.{needs}
-use Rattle.records.proofs.kind_read.Statement.{statement}
-use Rattle.records.proofs.kind_read.Tie as tie
+use Rattle.record_reader.proofs.kind_read.Statement.{statement}
+use Rattle.record_reader.proofs.kind_read.Tie as tie
 
 named-at-requires : tie.Need-named-at-requires
 named-at-requires c κs = search needs

@@ -1,10 +1,10 @@
 -- `number_at` reads at most four bytes, which are always a number. Assumes nothing.
 use mathlib.Core.Path.{sym, _∙_}
 use denote.Ref.{now}
 use Rattle.records.proofs.Laws.{number-is, number-some}
 use borrow.Author.Needs.{needs}
-use Rattle.records.proofs.number_at.Statement.{statement}
-use Rattle.records.proofs.number_at.Tie as tie
+use Rattle.record_reader.proofs.number_at.Statement.{statement}
+use Rattle.record_reader.proofs.number_at.Tie as tie
 
 part-requires : tie.Need-part-requires
 part-requires c κs = search needs

@@ -1,10 +1,10 @@
 -- `named_at` makes the tests of `namedAt` in their order. Assumes nothing.
 use mathlib.Core.Path.{sym, _∙_}
 use denote.Ref.{now}
 use Rattle.records.proofs.Laws.{named-long, named-not, named-high, named-good}
 use borrow.Author.Needs.{needs}
-use Rattle.records.proofs.named_at.Statement.{statement}
-use Rattle.records.proofs.named_at.Tie as tie
+use Rattle.record_reader.proofs.named_at.Statement.{statement}
+use Rattle.record_reader.proofs.named_at.Tie as tie
 
 number-at-requires : tie.Need-number-at-requires
 number-at-requires c κs = search needs

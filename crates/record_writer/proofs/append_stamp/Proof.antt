@@ -2,10 +2,11 @@
 use mathlib.Core.Path.{refl}
 use native.Mathlib.Omega.{arith}
 use denote.Ref.{now}
-use Rattle.records.proofs.Laws.{stamp-bytes, stamp-none, stamp-fits, append-none}
+use Rattle.records.proofs.Laws.{stamp-bytes, stamp-none, stamp-fits}
+use Rattle.record_writer.proofs.Fields.{append-none}
 use borrow.Author.Needs.{needs}
-use Rattle.records.proofs.append_stamp.Statement.{statement}
-use Rattle.records.proofs.append_stamp.Tie as tie
+use Rattle.record_writer.proofs.append_stamp.Statement.{statement}
+use Rattle.record_writer.proofs.append_stamp.Tie as tie
 
 enum-known-stamp : tie.Need-enum-known-stamp
 enum-known-stamp c = search needs
