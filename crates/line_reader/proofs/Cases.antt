@@ -3,9 +3,9 @@ use mathlib.Core.Path.{_≡_, sym, ap, _∙_}
 use mathlib.Core.Bool.{Bool, true, false}
 use mathlib.Core.List.{List}
 use Prim.Native.Nat.{ℕ, _-_}
-use lib.ListN.{length, getD, take, drop}
+use lib.ListN.{length, getD, drop}
 use lib.Seq.{drop-drop}
-use lib.Dec.{ltb, eqb}
+use lib.Dec.{ltb}
 use borrow.Author.Tests.{eq-eqb, ne-eqb}
 use Rattle.numbers.specs.declared.Number.{Number}
 use Rattle.numbers.specs.declared.Number.the-variants.{Value, Malformed}
@@ -36,24 +36,6 @@ module _ (x : ℕ) (t : List ℕ) {b : ℕ} (e : b ≡ getD t 0 0) where
   pub marked-no : (b ≡ x → ⊥) → false ≡ marked x t
   unfolding marked
   marked-no q = sym (rw (ne-eqb (getD t 0 0) x (λ h. q (e ∙ h))))
-
-module _ (s : List ℕ) where
-  pub resume-nine : length s ≡ 9 → eqb (getD s 8 0) 63 ≡ hasResume s
-  unfolding hasResume
-  resume-nine h = rw (eq-eqb (length s) 9 h)
-
-  pub resume-not : (length s ≡ 9 → ⊥) → false ≡ hasResume s
-  unfolding hasResume
-  resume-not h = rw (ne-eqb (length s) 9 h)
-
-  module _ {r : Bool} (e : r ≡ hasResume s) where
-    pub digits-cut : {p : List ℕ} → r ≡ true → p ≡ take 8 s → p ≡ stampDigits s
-    unfolding stampDigits
-    digits-cut q h = rw (sym e ∙ q) h
-
-    pub digits-all : r ≡ false → s ≡ stampDigits s
-    unfolding stampDigits
-    digits-all q = rw (sym e ∙ q)
 
 -- ---- Lines
 

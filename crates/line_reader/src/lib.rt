@@ -9,7 +9,7 @@ ghost use Prim.Native.Nat.{_-_};
 ghost use lib.ListN.{drop};
 ghost use Rattle.fields.specs.Lists.{upTo};
 ghost use Rattle.numbers.specs.Reading.{readSize, readCrc};
-ghost use Rattle.lines.specs.Frame.{lineMark, okMark, noMark, starts as startsOf, ends as endsOf, body as bodyOf, hasHash, behind as behindOf, marked, lineName, hasResume, stampDigits, lineStamp, lineCrc, basicBy, lineRead, lineOf, okCrcBy, okKept, okName, okRead, okOf, textOf, frameOf};
+ghost use Rattle.lines.specs.Frame.{lineMark, okMark, noMark, starts as startsOf, ends as endsOf, body as bodyOf, hasHash, behind as behindOf, marked, lineName, lineStamp, lineCrc, basicBy, lineRead, lineOf, okCrcBy, okKept, okName, okRead, okOf, textOf, frameOf};
 
 // a - b, never under 0.
 fn less(a: usize, b: usize) -> usize
@@ -117,26 +117,6 @@ fn line_name(end: usize, size: u32, crc: u16, stamp: u32, resumable: bool, t: &[
     Frame::MalformedLine
 }
 
-// Whether `?` stands behind a stamp's eight digits.
-fn has_resume(s: &[u8]) -> bool
-    ensures { λ r. ⌜ r ≡ hasResume (now (s .entry)) ⌝ }
-{
-    if s.len() == 9 {
-        return s[8] == b'?';
-    }
-    false
-}
-
-// The stamp without the `?`.
-fn stamp_digits(s: &[u8]) -> &[u8]
-    ensures { λ r. ⌜ now r ≡ stampDigits (now (s .entry)) ⌝ }
-{
-    if has_resume(s) {
-        return fields::part(s, 0, 8);
-    }
-    s
-}
-
 // `$`, the stamp and perhaps `?`, `#`, the name.
 fn line_stamp(end: usize, size: u32, crc: u16, t: &[u8]) -> Frame
     ensures { λ r. ⌜ r ≡ lineStamp end size crc (now (t .entry)) ⌝ }
@@ -144,8 +124,8 @@ fn line_stamp(end: usize, size: u32, crc: u16, t: &[u8]) -> Frame
     if is_marked(t, b'$') {
         let u = rest(t, 1);
         let s = before(u);
-        let resumable = has_resume(s);
-        let Number::Value(stamp) = numbers::read_hex(stamp_digits(s)) else {
+        let resumable = line_stamps::has_resume(s);
+        let Number::Value(stamp) = numbers::read_hex(line_stamps::stamp_digits(s)) else {
             return Frame::MalformedLine;
         };
         return line_name(end, size, crc, stamp, resumable, behind(u));

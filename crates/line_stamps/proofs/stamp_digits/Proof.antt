@@ -1,8 +1,8 @@
 -- `stamp_digits` gives the stamp without the `?`. Assumes nothing.
-use Rattle.line_reader.proofs.Cases.{digits-cut, digits-all}
+use Rattle.line_stamps.proofs.Cases.{digits-cut, digits-all}
 use borrow.Author.Needs.{needs}
-use Rattle.line_reader.proofs.stamp_digits.Statement.{statement}
-use Rattle.line_reader.proofs.stamp_digits.Tie as tie
+use Rattle.line_stamps.proofs.stamp_digits.Statement.{statement}
+use Rattle.line_stamps.proofs.stamp_digits.Tie as tie
 
 has-resume-requires : tie.Need-has-resume-requires
 has-resume-requires c κs = search needs

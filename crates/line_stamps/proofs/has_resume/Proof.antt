@@ -1,8 +1,8 @@
 -- `has_resume` tells whether `?` stands behind eight digits. Assumes nothing.
-use Rattle.line_reader.proofs.Cases.{resume-nine, resume-not}
+use Rattle.line_stamps.proofs.Cases.{resume-nine, resume-not}
 use borrow.Author.Needs.{needs}
-use Rattle.line_reader.proofs.has_resume.Statement.{statement}
-use Rattle.line_reader.proofs.has_resume.Tie as tie
+use Rattle.line_stamps.proofs.has_resume.Statement.{statement}
+use Rattle.line_stamps.proofs.has_resume.Tie as tie
 
 shared-slice-read-result : tie.Need-shared-slice-read-result
 shared-slice-read-result c = search needs
