@@ -1,4 +1,4 @@
--- `packets::header_packet` meets its contract: by the reading of the data.
+-- `header_packet` meets its contract: by the reading of the data.
 -- Assumes nothing.
 use mathlib.Core.Path.{_≡_, sym, _∙_}
 use denote.Ref.{now}

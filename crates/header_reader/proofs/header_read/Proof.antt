@@ -1,4 +1,4 @@
--- `packets::header_read` meets its contract: each return is a case of `headerRead`.
+-- `header_read` meets its contract: each return is a case of `headerRead`.
 -- Assumes nothing.
 use mathlib.Core.Path.{sym, _∙_}
 use native.Mathlib.Omega.{arith}

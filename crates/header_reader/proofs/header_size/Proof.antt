@@ -1,4 +1,4 @@
--- `packets::header_size` meets its contract: each return is a case of `headerSize`.
+-- `header_size` meets its contract: each return is a case of `headerSize`.
 -- Assumes nothing.
 use native.Mathlib.Omega.{arith}
 use denote.Ref.{now}

@@ -1,4 +1,4 @@
--- `packets::stamp_of` meets its contract: each return is a case of `stampOf`.
+-- `stamp_of` meets its contract: each return is a case of `stampOf`.
 -- Assumes nothing.
 use mathlib.Core.Path.{sym, ap, _∙_}
 use native.Mathlib.Omega.{arith}

@@ -1,4 +1,4 @@
--- `packets::acknowledge_of` meets its contract: by the second byte.
+-- `acknowledge_of` meets its contract: by the second byte.
 -- Assumes nothing.
 use borrow.Author.Tests.{ne-eqb}
 use Rattle.packets.specs.Packet.{acknowledgeOf}

@@ -1,4 +1,4 @@
--- `packets::block_packet` meets its contract: the place and what `is_sound` says.
+-- `block_packet` meets its contract: the place and what `is_sound` says.
 -- Assumes nothing.
 use mathlib.Core.Path.{ap}
 use mathlib.Core.Bool.{Bool}

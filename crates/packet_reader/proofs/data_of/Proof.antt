@@ -1,4 +1,4 @@
--- `packets::data_of` meets its contract: by the span.
+-- `data_of` meets its contract: by the span.
 -- Assumes nothing.
 use mathlib.Core.Path.{_≡_, sym, ap, _∙_}
 use denote.Ref.{now}

@@ -1,4 +1,4 @@
--- `packets::enquiry_packet` meets its contract: SI or RI, by the second byte.
+-- `enquiry_packet` meets its contract: SI or RI, by the second byte.
 -- Assumes nothing.
 use borrow.Author.Tests.{ne-eqb}
 use Rattle.packet_reader.proofs.enquiry_packet.Statement.{statement}

@@ -1,4 +1,4 @@
--- `packets::is_sound` meets its contract: each return is a case of `isSound`.
+-- `is_sound` meets its contract: each return is a case of `isSound`.
 -- Assumes nothing.
 use mathlib.Core.Path.{ap, _∙_}
 use native.Mathlib.Omega.{arith}

@@ -1,4 +1,4 @@
--- `packets::nak_packet` meets its contract: by the resume reading of the data.
+-- `nak_packet` meets its contract: by the resume reading of the data.
 -- Assumes nothing.
 use mathlib.Core.Path.{_≡_, sym, _∙_}
 use denote.Ref.{now}

@@ -1,4 +1,4 @@
--- `packets::packet_in` meets its contract: by the span.
+-- `packet_in` meets its contract: by the span.
 -- Assumes nothing.
 use mathlib.Core.Path.{ap, _∙_}
 use Rattle.packets.specs.Packet.{wholeOf}

@@ -1,4 +1,4 @@
--- `packets::packet_of` meets its contract: what stands there by its span.
+-- `packet_of` meets its contract: what stands there by its span.
 -- Assumes nothing.
 use mathlib.Core.Path.{ap, _∙_}
 use denote.Ref.{now}

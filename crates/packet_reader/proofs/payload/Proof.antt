@@ -1,4 +1,4 @@
--- `packets::payload` meets its contract: the bytes at the data's place.
+-- `payload` meets its contract: the bytes at the data's place.
 -- Assumes nothing.
 use mathlib.Core.Path.{ap, _∙_}
 use denote.Ref.{now}

@@ -1,4 +1,4 @@
--- `packets::whole_of` meets its contract: by the first byte, each arm a case of `wholeOf`.
+-- `whole_of` meets its contract: by the first byte, each arm a case of `wholeOf`.
 -- Assumes nothing.
 use mathlib.Core.Path.{_≡_, sym, ap, _∙_}
 use mathlib.Core.List.{List}
