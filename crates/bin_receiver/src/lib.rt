@@ -223,7 +223,7 @@ impl Receiver {
     pub fn resume(bytes: &[u8], room: usize, resumes: bool) -> Self
         ensures { λ r. ⌜ r ≡ resumeOf (now (bytes .entry)) room resumes ⌝ }
     {
-        let RecordRead::Good(r) = records::record_of(bytes) else {
+        let RecordRead::Good(r) = record_reader::record_of(bytes) else {
             let unreadable = ReceiverState::Ended {
                 outcome: Outcome::RecordUnreadable,
             };

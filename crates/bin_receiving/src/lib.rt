@@ -336,7 +336,7 @@ fn take_some(
 {
     match state {
         ReceiverState::Waiting => {
-            let heard = lines::frame_of(frame);
+            let heard = line_reader::frame_of(frame);
             hear(room, resumes, keeping, heard, frame, name, area)
         }
         ReceiverState::Basic { size, kept } => take_basic(size, kept, keeping, frame, area),

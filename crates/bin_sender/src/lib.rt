@@ -239,7 +239,7 @@ fn hears(m: Sender, frame: &[u8], file: &[u8]) -> Step
     requires { ⌜ length (now file) ≤ 4294967295 ⌝ }
     ensures { λ r. ⌜ moveOf m (now (file .entry)) r ≡ senderHears (settingsOf m) (now (file .entry)) (heard (now (frame .entry))) ⌝ }
 {
-    let got = lines::frame_of(frame);
+    let got = line_reader::frame_of(frame);
     match got {
         Frame::Basic(_) => stays(SenderState::Wait),
         Frame::Extended(_) => stays(SenderState::Wait),

@@ -184,7 +184,7 @@ fn write_entry(entry: Entry, name: &[u8], buf: &mut [u8]) -> Written
     let stamp = entry.stamp;
     let named = entry.named;
     let own = fields::part(name, 0, named);
-    records::write(buf, own, entry.size, entry.kept, stamp)
+    record_writer::write(buf, own, entry.size, entry.kept, stamp)
 }
 
 // Writes the record's bytes, where there is a record; its name stands at the front of name.

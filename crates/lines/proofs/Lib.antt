@@ -1,5 +1,4 @@
 -- Laws of the definitions of specs/, which this crate's proofs and its callers' cite.
-pub mod Cases
 pub mod Fields
 pub mod Reading
 pub mod RoundTrip

@@ -1,6 +1,5 @@
 -- Laws of the definitions of specs/, which this crate's proofs and its callers' cite.
-pub mod Cases
-pub mod ResumeLaws
+pub mod Sums
 pub mod Places
 pub mod Whole
 pub mod Parts

@@ -130,7 +130,7 @@ impl Reader {
         let filled = self.filled;
         let f = fill(&mut pending, filled, checked, chunk);
         let found = f.found;
-        let packet = packets::packet_in(found, &pending, checked);
+        let packet = packet_reader::packet_in(found, &pending, checked);
         Received {
             reader: Reader {
                 pending,

@@ -77,7 +77,7 @@ fn put_text(kind: &[u8], b: &[u8], p: Place) {
 }
 
 fn put_frame(b: &[u8]) {
-    match lines::frame_of(b) {
+    match line_reader::frame_of(b) {
         Frame::Basic(size) => {
             put(b"basic size ");
             put_number(size as u64);

@@ -49,7 +49,7 @@ fn print_record(b: &[u8], r: Record) {
 
 // What the bytes read as.
 fn print_read(b: &[u8]) {
-    match records::record_of(b) {
+    match record_reader::record_of(b) {
         RecordRead::Good(r) => print_record(b, r),
         RecordRead::Unreadable => print(b" 1"),
     }
@@ -68,7 +68,7 @@ fn save(label: &[u8], buf: &mut [u8], name: &[u8], size: u32, kept: u32, stamp: 
     print(b"write ");
     print(label);
     print(b":");
-    match records::write(buf, name, size, kept, stamp) {
+    match record_writer::write(buf, name, size, kept, stamp) {
         Written::Bytes(n) => {
             let written = fields::part(buf, 0, n);
             print_bytes(written);

@@ -44,7 +44,7 @@ pub fn write_tx(reply: &mut [u8], text: &[u8]) -> Written
 fn is_resume(d: &[u8]) -> bool
     ensures { λ r. ⌜ r ≡ isAsked (resumeRead (now (d .entry))) ⌝ }
 {
-    match packets::resume_read(d) {
+    match resume_reader::resume_read(d) {
         ResumeRead::Asked(_) => true,
         ResumeRead::Nothing => false,
     }

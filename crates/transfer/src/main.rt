@@ -98,7 +98,7 @@ fn print_record(bytes: &[u8]) {
     if bytes.len() == 0 {
         return print(b"  no record\n");
     }
-    match records::record_of(bytes) {
+    match record_reader::record_of(bytes) {
         records::RecordRead::Good(r) => {
             print_number(b"  record of ", bytes.len());
             print_number(b" bytes: kept ", r.kept as usize);

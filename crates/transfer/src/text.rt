@@ -166,7 +166,7 @@ fn print_length(n: usize, passed: usize) {
 // A packet on its way.
 pub fn packet(arrow: &[u8], bytes: &[u8], checked: bool, passed: usize) {
     print(arrow);
-    print_packet(packets::packet_of(bytes, checked));
+    print_packet(packet_reader::packet_of(bytes, checked));
     print_length(bytes.len(), passed);
 }
 
@@ -189,7 +189,7 @@ fn print_frame(frame: Frame) {
 // A frame on its way that is not of the file.
 pub fn frame(arrow: &[u8], bytes: &[u8], passed: usize) {
     print(arrow);
-    print_frame(lines::frame_of(bytes));
+    print_frame(line_reader::frame_of(bytes));
     print_length(bytes.len(), passed);
 }
 

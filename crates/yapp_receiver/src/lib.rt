@@ -337,7 +337,7 @@ impl Receiver {
             resumes,
             checks,
         };
-        let RecordRead::Good(r) = records::record_of(bytes) else {
+        let RecordRead::Good(r) = record_reader::record_of(bytes) else {
             return begin_ended(Outcome::RecordUnreadable, settings);
         };
         begin_saved(r, bytes, settings)

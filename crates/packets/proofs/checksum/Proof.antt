@@ -8,7 +8,7 @@ use borrow.Author.Needs.{needs}
 use denote.Ref.{now}
 use lib.ListN.{length, drop, getD}
 use Rattle.packets.specs.Packet.{sum, checksum}
-use Rattle.packets.proofs.ResumeLaws.{checksum-start, checksum-more, checksum-end}
+use Rattle.packets.proofs.Sums.{checksum-start, checksum-more, checksum-end}
 use Rattle.packets.proofs.checksum.Statement.{statement}
 use Rattle.packets.proofs.checksum.Tie as tie
 
