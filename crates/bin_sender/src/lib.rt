@@ -335,7 +335,7 @@ fn put_stop(reply: &mut [u8]) -> usize
     requires { ⌜ 259 ≤ length (now reply) ⌝ }
     ensures { λ r. ⌜ (r ≡ length stopFrame) × (now (reply .exit) ≡ over 0 stopFrame (now (reply .entry))) ⌝ }
 {
-    calls::count(line_writer::write_stop(reply))
+    calls::count(refusal_writer::write_stop(reply))
 }
 
 // Lays what is sent into the reply buffer, and returns how many bytes that are.

@@ -1,9 +1,9 @@
 -- `write_no` writes a refusal, or refuses. Assumes nothing.
 use Rattle.fields.proofs.Buffer.{small, refused, written}
-use Rattle.line_writer.proofs.Forms.{no-long, no-form}
+use Rattle.refusal_writer.proofs.Forms.{no-long, no-form}
 use borrow.Author.Needs.{needs}
-use Rattle.line_writer.proofs.write_no.Statement.{statement}
-use Rattle.line_writer.proofs.write_no.Tie as tie
+use Rattle.refusal_writer.proofs.write_no.Statement.{statement}
+use Rattle.refusal_writer.proofs.write_no.Tie as tie
 
 returns : tie.Need-returns
 returns c = small 259 _ _ (c .if1 .taken)

@@ -2,10 +2,10 @@
 use mathlib.Core.Path.{sym, _∙_}
 use native.Mathlib.Omega.{arith}
 use Rattle.fields.proofs.Buffer.{small, refused, written}
-use Rattle.line_writer.proofs.Forms.{kept-long, kept-nameless, kept-form, name-short}
+use Rattle.ok_writer.proofs.Forms.{kept-long, kept-nameless, kept-form, name-short}
 use borrow.Author.Needs.{needs}
-use Rattle.line_writer.proofs.write_ok_kept.Statement.{statement}
-use Rattle.line_writer.proofs.write_ok_kept.Tie as tie
+use Rattle.ok_writer.proofs.write_ok_kept.Statement.{statement}
+use Rattle.ok_writer.proofs.write_ok_kept.Tie as tie
 
 returns : tie.Need-returns
 returns c = small 259 _ _ (c .if1 .taken)

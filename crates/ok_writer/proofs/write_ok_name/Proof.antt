@@ -1,10 +1,10 @@
 -- `write_ok_name` writes the second OK, or refuses. Assumes nothing.
 use mathlib.Core.Path.{sym, _∙_}
 use Rattle.fields.proofs.Buffer.{small, refused, written}
-use Rattle.line_writer.proofs.Forms.{ok-nameless, ok-form, name-short}
+use Rattle.ok_writer.proofs.Forms.{ok-nameless, ok-form, name-short}
 use borrow.Author.Needs.{needs}
-use Rattle.line_writer.proofs.write_ok_name.Statement.{statement}
-use Rattle.line_writer.proofs.write_ok_name.Tie as tie
+use Rattle.ok_writer.proofs.write_ok_name.Statement.{statement}
+use Rattle.ok_writer.proofs.write_ok_name.Tie as tie
 
 returns : tie.Need-returns
 returns c = small 259 _ _ (c .if1 .taken)

@@ -1,9 +1,9 @@
 -- `put_kept` lays down the third OK. Assumes nothing.
 use native.Mathlib.Omega.{arith}
-use Rattle.line_writer.proofs.Laying.{put-kept}
+use Rattle.ok_writer.proofs.Laying.{put-kept}
 use borrow.Author.Needs.{needs}
-use Rattle.line_writer.proofs.put_kept.Statement.{statement}
-use Rattle.line_writer.proofs.put_kept.Tie as tie
+use Rattle.ok_writer.proofs.put_kept.Statement.{statement}
+use Rattle.ok_writer.proofs.put_kept.Tie as tie
 
 slice-aggregate-append-bytes : tie.Need-slice-aggregate-append-bytes
 slice-aggregate-append-bytes c = search needs

@@ -1,9 +1,9 @@
--- `put_ok` lays down the second OK. Assumes nothing.
+-- `put_no` lays down a refusal. Assumes nothing.
 use native.Mathlib.Omega.{arith}
-use Rattle.line_writer.proofs.Laying.{put-ok}
+use Rattle.refusal_writer.proofs.Laying.{put-no}
 use borrow.Author.Needs.{needs}
-use Rattle.line_writer.proofs.put_ok.Statement.{statement}
-use Rattle.line_writer.proofs.put_ok.Tie as tie
+use Rattle.refusal_writer.proofs.put_no.Statement.{statement}
+use Rattle.refusal_writer.proofs.put_no.Tie as tie
 
 slice-aggregate-append-bytes : tie.Need-slice-aggregate-append-bytes
 slice-aggregate-append-bytes c = search needs
@@ -21,10 +21,10 @@ same-length : tie.Need-same-length
 same-length c = search needs
 
 returns : tie.Need-returns
-returns c = put-ok _ (omega arith) _ (omega arith) (c .before .before .before .before .before .before .before .before .before .before .append-bytes .ensures) (c .before .before .before .before .before .before .append-bytes2 .ensures) (c .before .before .append-byte .ensures)
+returns c = put-no _ (omega arith) _ (omega arith) (c .before .before .before .before .before .before .before .before .before .before .append-bytes .ensures) (c .before .before .before .before .before .before .append-bytes2 .ensures) (c .before .before .append-byte .ensures)
 
-pub put-ok-spec : {M : Type 1} → statement M
-put-ok-spec =
+pub put-no-spec : {M : Type 1} → statement M
+put-no-spec =
     tie.close
     (tie.spec
     slice-aggregate-append-bytes
