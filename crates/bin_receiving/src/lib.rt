@@ -381,18 +381,18 @@ pub fn put(reply: &mut [u8], out: Out, name: &[u8]) -> usize
 {
     match out {
         Out::Silent => 0,
-        Out::Format => calls::count(line_writer::write_no(reply, b"format")),
-        Out::Room => calls::count(line_writer::write_no(reply, b"room")),
-        Out::Have => calls::count(line_writer::write_no(reply, b"have")),
-        Out::Differs => calls::count(line_writer::write_no(reply, b"differs")),
-        Out::FirstOk => calls::count(line_writer::write_ok(reply)),
-        Out::SecondOk => calls::count(line_writer::write_ok_name(reply, name)),
-        Out::ThirdOk { kept, crc } => calls::count(line_writer::write_ok_kept(
+        Out::Format => calls::count(refusal_writer::write_no(reply, b"format")),
+        Out::Room => calls::count(refusal_writer::write_no(reply, b"room")),
+        Out::Have => calls::count(refusal_writer::write_no(reply, b"have")),
+        Out::Differs => calls::count(refusal_writer::write_no(reply, b"differs")),
+        Out::FirstOk => calls::count(ok_writer::write_ok(reply)),
+        Out::SecondOk => calls::count(ok_writer::write_ok_name(reply, name)),
+        Out::ThirdOk { kept, crc } => calls::count(ok_writer::write_ok_kept(
             reply,
             name,
             kept,
             crc,
         )),
-        Out::Stop => calls::count(line_writer::write_stop(reply)),
+        Out::Stop => calls::count(refusal_writer::write_stop(reply)),
     }
 }

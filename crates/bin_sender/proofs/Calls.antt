@@ -1,57 +1,49 @@
 -- A call is taken, or refused. Assumes nothing.
 use mathlib.Core.Path.{_≡_, refl, sym, ap, _∙_}
 use mathlib.Core.Bool.{Bool, true, false}
-use mathlib.Core.List.{List}
+use mathlib.Core.List.{List, []}
 use Prim.Native.Nat.{ℕ, _≤_}
-use native.Mathlib.Omega.{arith}
 use lib.ListN.{length}
+use lib.Dec.{ltb}
+use borrow.Author.Tests.{le-ltb}
+use Rattle.fields.specs.Pick.{pick}
+use Rattle.fields.proofs.Buffer.{over-none}
 use Rattle.calls.specs.declared.Status.{Status}
 use Rattle.calls.specs.declared.Status.the-variants.{Taken, Over, LongFrame, SmallReply, WrongLength}
 use Rattle.calls.specs.Checks.{isTaken}
 use Rattle.calls.proofs.Laws.{taken-room}
 use Rattle.bin.specs.Steps.{SenderMove, senderEnded}
+use Rattle.bin_frames.specs.Frames.{laidOf}
+use Rattle.bin_sending.specs.Sending.{Done, refuses, ifTaken}
 use Rattle.bin_sender.specs.declared.Sender.{Sender}
-use Rattle.bin_sender.specs.declared.SenderAnswer.{SenderAnswer}
-use Rattle.bin_sender.specs.declared.Step.{Step}
 use Rattle.bin_sender.specs.Sender.{SenderAfter, statusOf, replied, refusedCall, unlessRefused}
-use Rattle.bin_sender.specs.Acts.{moveOf}
+use Rattle.bin_sender.specs.Acts.{answeredBy}
 
-module _ (m : Sender) (reply : List ℕ) (after : SenderAfter) where
-  unless-taken : (s : Status) → isTaken s ≡ true → unlessRefused s m reply after ≡ after
-  unless-taken Taken h = refl
-  unless-taken Over h = let z : _≡_ {A = ℕ} 0 1 = cc in absurd (omega arith)
-  unless-taken LongFrame h = let z : _≡_ {A = ℕ} 0 1 = cc in absurd (omega arith)
-  unless-taken SmallReply h = let z : _≡_ {A = ℕ} 0 1 = cc in absurd (omega arith)
-  unless-taken WrongLength h = let z : _≡_ {A = ℕ} 0 1 = cc in absurd (omega arith)
+module _ (m : Sender) (reply : List ℕ) where
+  -- where nothing is sent, nothing is laid down
+  laid-none : laidOf reply [] ≡ []
+  laid-none = go (ltb (length reply) 259)
+    where
+      go : (b : Bool) → pick {A = List ℕ} b [] [] ≡ []
+      go true = refl
+      go false = refl
 
-  unless-refused : (s : Status) → isTaken s ≡ false → unlessRefused s m reply after ≡ refusedCall m s reply
-  unless-refused Taken h = let z : _≡_ {A = ℕ} 0 1 = cc in absurd (omega arith)
-  unless-refused Over h = refl
-  unless-refused LongFrame h = refl
-  unless-refused SmallReply h = refl
-  unless-refused WrongLength h = refl
+  refused : (s : Status) → refusedCall m s reply ≡ answeredBy m (refuses s (m .core .state)) reply
+  refused s = rw (laid-none, over-none reply)
 
--- the code has the status s of a call, and whether it is taken
-module _ (m : Sender) (frame : ℕ) (file reply : List ℕ) (s : Status) (b : Bool) (is : s ≡ statusOf m frame file reply) (told : b ≡ isTaken s) where
-  taken-so : b ≡ true → isTaken (statusOf m frame file reply) ≡ true
-  taken-so h = ap isTaken (sym is) ∙ sym told ∙ h
+  by-status : (a : SenderMove) (s : Status) → (isTaken s ≡ true → 259 ≤ length reply)
+      → unlessRefused s m reply (replied m a reply) ≡ answeredBy m (ifTaken s (m .core .state) a) reply
+  by-status a Taken h = rw (le-ltb (length reply) 259 (h refl))
+  by-status a Over h = refused Over
+  by-status a LongFrame h = refused LongFrame
+  by-status a SmallReply h = refused SmallReply
+  by-status a WrongLength h = refused WrongLength
 
-  pub has-room : b ≡ true → 259 ≤ length reply
-  has-room h = taken-room (senderEnded (m .core .state)) (length reply) frame (length file) (m .core .size) (taken-so h) .0
-
-  pub file-fits : b ≡ true → m .core .size ≤ 4294967295 → length file ≤ 4294967295
-  file-fits h g =
-      let e = taken-room (senderEnded (m .core .state)) (length reply) frame (length file) (m .core .size) (taken-so h) .2 in
-      omega arith
-
-  -- it decided t, which is the move a, and answered x
-  pub call-taken : (a : SenderMove) (t : Step) (x : SenderAfter) → b ≡ true → moveOf m file t ≡ a → replied m (moveOf m file t) reply ≡ x
-      → unlessRefused (statusOf m frame file reply) m reply (replied m a reply) ≡ x
-  call-taken a t x h q w =
-      unless-taken m reply (replied m a reply) (statusOf m frame file reply) (taken-so h)
-      ∙ ap (λ (y : SenderMove). replied m y reply) (sym q) ∙ w
-
-  pub call-refused : (after : SenderAfter) (r : SenderAnswer) → b ≡ false → r ≡ record { sender = m; status = s; sent = 0 }
-      → unlessRefused (statusOf m frame file reply) m reply after ≡ record { answer = r; reply = reply }
-  call-refused after r h q =
-      unless-refused m reply after (statusOf m frame file reply) (ap isTaken (sym is) ∙ sym told ∙ h) ∙ rw (← is, q)
+-- it decided d, by the status of the call and the move a, and answered x
+pub called : (m : Sender) (frame : ℕ) (file reply : List ℕ) (a : SenderMove) (d : Done) (x : SenderAfter)
+    → d ≡ ifTaken (statusOf m frame file reply) (m .core .state) a → answeredBy m d reply ≡ x
+    → unlessRefused (statusOf m frame file reply) m reply (replied m a reply) ≡ x
+called m frame file reply a d x e w =
+    by-status m reply a (statusOf m frame file reply)
+    (λ h. taken-room (senderEnded (m .core .state)) (length reply) frame (length file) (m .core .size) h .0)
+    ∙ ap (λ (y : Done). answeredBy m y reply) (sym e) ∙ w

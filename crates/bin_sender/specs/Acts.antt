@@ -1,21 +1,28 @@
--- What the code decides before it acts, and the move that this stands for.
+-- The answer by what the code decided.
 use Prim.Native.Nat.{ℕ}
-use mathlib.Core.List.{List, [], _∷_}
-use lib.ListN.{drop}
-use Rattle.lines.specs.Frame.{stopFrame}
-use Rattle.bin.specs.Steps.{cut, SenderMove, goes, lineOf}
-use Rattle.bin_sender.specs.declared.Out.{Out}
-use Rattle.bin_sender.specs.declared.Out.the-variants.{Nothing, Line, Data, Stop}
+use mathlib.Core.List.{List}
+use lib.ListN.{length}
+use Rattle.fields.specs.Buffer.{over}
+use Rattle.bin_frames.specs.Frames.{laidOf}
+use Rattle.bin_sending.specs.Sending.{Done}
 use Rattle.bin_sender.specs.declared.Sender.{Sender}
-use Rattle.bin_sender.specs.declared.Step.{Step}
-use Rattle.bin_sender.specs.Sender.{settingsOf}
+use Rattle.bin_sender.specs.Sender.{SenderAfter}
 
--- the frames that are sent
-abbrev pub framesOf : Sender → List ℕ → Out → List (List ℕ)
-framesOf m file Nothing = []
-framesOf m file Line = lineOf (settingsOf m) file ∷ []
-framesOf m file (Data n) = cut (settingsOf m .block) (drop n file) ∷ []
-framesOf m file Stop = stopFrame ∷ []
-
-abbrev pub moveOf : Sender → List ℕ → Step → SenderMove
-moveOf m file s = goes (s .state) (framesOf m file (s .out))
+abbrev pub answeredBy : Sender → Done → List ℕ → SenderAfter
+answeredBy m d reply = record {
+  answer = record {
+    sender = record {
+      name = m .name;
+      core = record {
+        state = d .made .state;
+        announce = m .core .announce;
+        named = m .core .named;
+        size = m .core .size;
+        block = m .core .block;
+      };
+    };
+    status = d .status;
+    sent = length (laidOf reply (d .made .out));
+  };
+  reply = over 0 (laidOf reply (d .made .out)) reply;
+}

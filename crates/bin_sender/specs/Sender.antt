@@ -16,6 +16,7 @@ use Rattle.bin.specs.declared.Announce.{Announce}
 use Rattle.bin.specs.declared.Announce.the-variants.{Basic, Extended}
 use Rattle.bin.specs.declared.SenderState.{SenderState}
 use Rattle.bin.specs.declared.SenderState.the-variants.{Start, Ended}
+use Rattle.bin_frames.specs.Frames.{blockOf}
 use Rattle.bin_sender.specs.declared.Sender.{Sender}
 use Rattle.bin_sender.specs.declared.SenderAnswer.{SenderAnswer}
 use Rattle.bin.specs.Steps.{joined, SenderSettings, SenderMove, senderTakes, senderLeaves, senderFails, senderEnded}
@@ -51,10 +52,6 @@ begin name size block stamp resumes = pick (isName name) (within (Extended stamp
 pub record SenderAfter : Type 0 where
   pub answer : SenderAnswer
   pub reply : List ℕ
-
--- a block is 1 to 256 bytes; no beginning gives a longer one, and it would count as 256
-abbrev pub blockOf : ℕ → ℕ
-blockOf block = pick (leb block 256) block 256
 
 abbrev pub settingsOf : Sender → SenderSettings
 settingsOf m = record {

@@ -42,7 +42,7 @@ fn write_kept(reply: &mut [u8], source: &[u8], k: Kept) -> Written
     ensures { λ r. ⌜ (r ≡ writtenOf 259 (formOf (contentOf (now (source .entry)) (OKKept k))) (now (reply .entry))) × (now (reply .exit) ≡ leftOf 259 (formOf (contentOf (now (source .entry)) (OKKept k))) (now (reply .entry))) ⌝ }
 {
     let name = k.name;
-    line_writer::write_ok_kept(reply, fields::bytes_at(source, name), k.kept, k.crc)
+    ok_writer::write_ok_kept(reply, fields::bytes_at(source, name), k.kept, k.crc)
 }
 
 // Any element, its places being in source.
@@ -52,11 +52,11 @@ pub fn write(frame: Frame, source: &[u8], reply: &mut [u8]) -> Written
     match frame {
         Frame::Basic(size) => line_writer::write_basic(reply, size),
         Frame::Extended(l) => write_extended(reply, source, l),
-        Frame::OK => line_writer::write_ok(reply),
-        Frame::OKName(name) => line_writer::write_ok_name(reply, fields::bytes_at(source, name)),
+        Frame::OK => ok_writer::write_ok(reply),
+        Frame::OKName(name) => ok_writer::write_ok_name(reply, fields::bytes_at(source, name)),
         Frame::OKKept(k) => write_kept(reply, source, k),
-        Frame::NO(text) => line_writer::write_no(reply, fields::bytes_at(source, text)),
-        Frame::Stop => line_writer::write_stop(reply),
+        Frame::NO(text) => refusal_writer::write_no(reply, fields::bytes_at(source, text)),
+        Frame::Stop => refusal_writer::write_stop(reply),
         _ => write_none(reply),
     }
 }

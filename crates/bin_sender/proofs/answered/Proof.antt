@@ -1,4 +1,4 @@
--- The answer of a call that is taken. Assumes nothing.
+-- The answer of a call. Assumes nothing.
 use borrow.Author.Needs.{needs}
 use Rattle.bin_sender.proofs.answered.Statement.{statement}
 use Rattle.bin_sender.proofs.answered.Tie as tie

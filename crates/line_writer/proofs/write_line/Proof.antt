@@ -2,7 +2,8 @@
 use mathlib.Core.Path.{sym, _∙_}
 use native.Mathlib.Omega.{arith}
 use Rattle.fields.proofs.Buffer.{small, refused, written}
-use Rattle.line_writer.proofs.Forms.{line-long, line-nameless, line-form, name-short}
+use Rattle.ok_writer.proofs.Forms.{name-short}
+use Rattle.line_writer.proofs.Forms.{line-long, line-nameless, line-form}
 use borrow.Author.Needs.{needs}
 use Rattle.line_writer.proofs.write_line.Statement.{statement}
 use Rattle.line_writer.proofs.write_line.Tie as tie

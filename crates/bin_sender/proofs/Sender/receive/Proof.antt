@@ -1,28 +1,19 @@
 -- `receive` takes a frame. Assumes nothing.
-use native.Mathlib.Omega.{arith}
+use mathlib.Core.Path.{refl}
 use lib.ListN.{length}
 use denote.Ref.{now}
-use Rattle.bin_sender.specs.Sender.{receive}
-use Rattle.bin_sender.proofs.Calls.{file-fits, has-room, call-taken, call-refused}
+use Rattle.bin.specs.Steps.{senderTakes}
+use Rattle.bin_sender.specs.Sender.{settingsOf, receive}
+use Rattle.bin_sender.proofs.Calls.{called}
 use borrow.Author.Needs.{needs}
 use Rattle.bin_sender.proofs.Sender.receive.Statement.{statement}
 use Rattle.bin_sender.proofs.Sender.receive.Tie as tie
 
-check-requires : tie.Need-check-requires
-check-requires c κs = search needs
-
-is-taken-requires : tie.Need-is-taken-requires
-is-taken-requires c κs = search needs
-
-takes-requires : tie.Need-takes-requires
-takes-requires c κs =
-    let a = c .before .before .before .before .before .before .args in
-    file-fits (a .self) (length (now (a .frame))) (now (a .file)) (now (a .reply)) _ _ (c .before .before .check .ensures) (c .before .is-taken .ensures) (c .if1 .taken) (omega arith)
+receives-requires : tie.Need-receives-requires
+receives-requires c κs = search needs
 
 answered-requires : tie.Need-answered-requires
-answered-requires c κs =
-    let a = c .before .before .before .before .before .before .before .before .args in
-    has-room (a .self) (length (now (a .frame))) (now (a .file)) (now (a .reply)) _ _ (c .before .before .before .before .check .ensures) (c .before .before .before .is-taken .ensures) (c .before .before .if1 .taken)
+answered-requires c κs = search needs
 
 same-length : tie.Need-same-length
 same-length c = search needs
@@ -30,28 +21,8 @@ same-length c = search needs
 returns : tie.Need-returns
 unfolding receive
 returns c =
-    let a = c .before .before .before .before .before .before .before .before .before .before .before .args in
-    call-taken (a .self) (length (now (a .frame))) (now (a .file)) (now (a .reply)) _ _ (c .before .before .before .before .before .before .before .check .ensures) (c .before .before .before .before .before .before .is-taken .ensures) _ (c .before .before .before .before .takes .result) _
-    (c .before .before .before .before .before .if1 .taken) (c .before .before .before .before .takes .ensures) (c .before .before .answered .ensures)
-
-refused-requires : tie.Need-refused-requires
-refused-requires c κs = search needs
-
-returns-2 : tie.Need-returns-2
-unfolding receive
-returns-2 c =
-    let a = c .before .before .before .before .before .before .before .args in
-    call-refused (a .self) (length (now (a .frame))) (now (a .file)) (now (a .reply)) _ _ (c .before .before .before .check .ensures) (c .before .before .is-taken .ensures) _ _ (c .before .if1 .left) (c .refused .ensures)
+    let a = c .before .before .before .before .before .before .before .before .before .args in
+    called (a .self) (length (now (a .frame))) (now (a .file)) (now (a .reply)) (senderTakes (settingsOf (a .self)) (now (a .file)) (a .self .core .state) (now (a .frame))) _ _ (c .before .before .before .before .receives .ensures (settingsOf (a .self)) refl refl) (c .before .before .answered .ensures)
 
 pub receive-spec : {M : Type 1} → statement M
-receive-spec =
-    tie.close
-    (tie.spec
-    check-requires
-    is-taken-requires
-    takes-requires
-    answered-requires
-    same-length
-    returns
-    refused-requires
-    returns-2)
+receive-spec = tie.close (tie.spec receives-requires answered-requires same-length returns)

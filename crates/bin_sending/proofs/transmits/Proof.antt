@@ -1,0 +1,32 @@
+-- A chance to send, or a refused call. Assumes nothing.
+use mathlib.Core.Path.{ap, _∙_}
+use native.Mathlib.Omega.{arith}
+use denote.Ref.{now}
+use Rattle.bin_sending.specs.Sending.{doneBy}
+use Rattle.bin_sending.proofs.Calls.{file-fits, call-taken, call-refused}
+use borrow.Author.Needs.{needs}
+use Rattle.bin_sending.proofs.transmits.Statement.{statement}
+use Rattle.bin_sending.proofs.transmits.Tie as tie
+
+check-requires : tie.Need-check-requires
+check-requires c κs = search needs
+
+is-taken-requires : tie.Need-is-taken-requires
+is-taken-requires c κs = search needs
+
+leaves-requires : tie.Need-leaves-requires
+leaves-requires c κs = file-fits _ _ _ _ _ _ _ (c .before .before .check .ensures) (c .before .is-taken .ensures) (c .if1 .taken) (omega arith)
+
+returns : tie.Need-returns
+returns c = λ s h. c .leaves .ensures s h ∙ call-taken _ _ _ _ _ _ _ (c .before .before .before .check .ensures) (c .before .before .is-taken .ensures) (c .before .if1 .taken) _ _
+
+refused-requires : tie.Need-refused-requires
+refused-requires c κs = search needs
+
+returns-2 : tie.Need-returns-2
+returns-2 c = λ s h. ap (doneBy s (now (c .before .before .before .before .before .args .file))) (c .refused .ensures) ∙ call-refused _ _ _ _ _ _ _ (c .before .before .before .check .ensures) (c .before .before .is-taken .ensures) (c .before .if1 .left) _ _
+
+pub transmits-spec : {M : Type 1} → statement M
+transmits-spec =
+    tie.close
+    (tie.spec check-requires is-taken-requires leaves-requires returns refused-requires returns-2)

@@ -1,0 +1,33 @@
+-- What the code decides before it acts, and the move of `bin` that this stands for.
+use Prim.Native.Nat.{ℕ}
+use mathlib.Core.List.{List, []}
+use Rattle.calls.specs.declared.Status.{Status}
+use Rattle.calls.specs.declared.Status.the-variants.{Taken, Over, LongFrame, SmallReply, WrongLength}
+use Rattle.bin.specs.declared.SenderState.{SenderState}
+use Rattle.bin.specs.Steps.{SenderSettings, SenderMove, goes}
+use Rattle.bin_frames.specs.Frames.{framesOf}
+use Rattle.bin_sending.specs.declared.Step.{Step}
+
+-- what a call does: whether it is taken, and the move
+pub record Done : Type 0 where
+  pub status : Status
+  pub made : SenderMove
+
+abbrev pub doneBy : SenderSettings → List ℕ → Step → Done
+doneBy s file t = record { status = t .status; made = goes (t .state) (framesOf s file (t .out)) }
+
+-- a call that is taken
+abbrev pub does : SenderMove → Done
+does a = record { status = Taken; made = a }
+
+-- a call that is refused changes nothing and sends nothing
+abbrev pub refuses : Status → SenderState → Done
+refuses s st = record { status = s; made = goes st [] }
+
+-- by the status of the call
+abbrev pub ifTaken : Status → SenderState → SenderMove → Done
+ifTaken Taken st a = does a
+ifTaken Over st a = refuses Over st
+ifTaken LongFrame st a = refuses LongFrame st
+ifTaken SmallReply st a = refuses SmallReply st
+ifTaken WrongLength st a = refuses WrongLength st

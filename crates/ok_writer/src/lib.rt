@@ -1,0 +1,79 @@
+// Writes the three OKs of #BIN#. The buffer is one of at least 259 bytes. Every byte behind the OK stays, and a refusal leaves all as
+// it was: a buffer under 259 bytes is 20, an OK that has no form is 22.
+use fields::Written;
+ghost use mathlib.Core.Path.{_≡_};
+ghost use mathlib.Core.List.{[]};
+ghost use Prim.Native.Nat.{_≤_};
+ghost use lib.ListN.{length};
+ghost use Rattle.fields.specs.Buffer.{over, bytes as bytesForm, writtenOf, leftOf};
+ghost use Rattle.numerals.specs.Writing.{decimal};
+ghost use Rattle.lines.specs.Element.{okBytes, keptBytes, okNameForm, okKeptForm};
+
+// The least reply buffer.
+const LEAST: usize = 259;
+
+// `#OK#`name`\r`
+fn put_ok(reply: &mut [u8], name: &[u8]) -> usize
+    requires { ⌜ (length (now name) ≤ 64) × (259 ≤ length (now reply)) ⌝ }
+    ensures { λ r. ⌜ (r ≡ length (okBytes (now (name .entry)))) × (now (reply .exit) ≡ over 0 (okBytes (now (name .entry))) (now (reply .entry))) ⌝ }
+{
+    let start = fields::append_bytes(reply, 0, b"#OK#");
+    let named = fields::append_bytes(reply, start, name);
+    fields::append_byte(reply, named, 13)
+}
+
+// The first OK.
+pub fn write_ok(reply: &mut [u8]) -> Written
+    ensures { λ r. ⌜ (r ≡ writtenOf 259 (bytesForm (okBytes [])) (now (reply .entry))) × (now (reply .exit) ≡ leftOf 259 (bytesForm (okBytes [])) (now (reply .entry))) ⌝ }
+{
+    if reply.len() < LEAST {
+        return Written::Small;
+    }
+    let n = fields::append_bytes(reply, 0, b"#OK#\r");
+    Written::Bytes(n)
+}
+
+// The second OK: the name.
+pub fn write_ok_name(reply: &mut [u8], name: &[u8]) -> Written
+    ensures { λ r. ⌜ (r ≡ writtenOf 259 (okNameForm (now (name .entry))) (now (reply .entry))) × (now (reply .exit) ≡ leftOf 259 (okNameForm (now (name .entry))) (now (reply .entry))) ⌝ }
+{
+    if reply.len() < LEAST {
+        return Written::Small;
+    }
+    if fields::is_name(name) {
+        let n = put_ok(reply, name);
+        return Written::Bytes(n);
+    }
+    Written::Formless
+}
+
+// `#OK#`name`#$`kept`#`crc`\r`
+fn put_kept(reply: &mut [u8], name: &[u8], kept: u32, crc: u16) -> usize
+    requires { ⌜ (kept ≤ 99999999) × (length (now name) ≤ 64) × (259 ≤ length (now reply)) ⌝ }
+    ensures { λ r. ⌜ (r ≡ length (keptBytes (now (name .entry)) (decimal kept) (decimal crc))) × (now (reply .exit) ≡ over 0 (keptBytes (now (name .entry)) (decimal kept) (decimal crc)) (now (reply .entry))) ⌝ }
+{
+    let mark = fields::append_bytes(reply, 0, b"#OK#");
+    let name_end = fields::append_bytes(reply, mark, name);
+    let kept_start = fields::append_bytes(reply, name_end, b"#$");
+    let kept_end = numerals::append_decimal(reply, kept_start, kept as u64);
+    let crc_start = fields::append_byte(reply, kept_end, b'#');
+    let crc_end = numerals::append_decimal(reply, crc_start, crc as u64);
+    fields::append_byte(reply, crc_end, 13)
+}
+
+// The third OK: the name, how many bytes are kept, and their CRC.
+pub fn write_ok_kept(reply: &mut [u8], name: &[u8], kept: u32, crc: u16) -> Written
+    ensures { λ r. ⌜ (r ≡ writtenOf 259 (okKeptForm (now (name .entry)) kept crc) (now (reply .entry))) × (now (reply .exit) ≡ leftOf 259 (okKeptForm (now (name .entry)) kept crc) (now (reply .entry))) ⌝ }
+{
+    if reply.len() < LEAST {
+        return Written::Small;
+    }
+    if 99_999_999 < kept {
+        return Written::Formless;
+    }
+    if fields::is_name(name) {
+        let n = put_kept(reply, name, kept, crc);
+        return Written::Bytes(n);
+    }
+    Written::Formless
+}
