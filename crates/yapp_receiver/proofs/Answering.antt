@@ -1,32 +1,23 @@
--- What the calls leave, from what a step leaves; and what is sent. Assumes nothing.
+-- What the calls leave, from what a step leaves. Assumes nothing.
 use mathlib.Core.Path.{_≡_, refl, ap, sym, _∙_}
 use mathlib.Core.Bool.{Bool, true, false}
-use mathlib.Core.List.{List, [], _∷_, append-nil}
-use Prim.Native.Nat.{ℕ, _≤_}
+use mathlib.Core.List.{List}
+use Prim.Native.Nat.{ℕ}
 use native.Mathlib.Omega.{arith}
 use lib.ListN.{length}
-use Rattle.fields.specs.Pick.{pick}
-use Rattle.fields.specs.Buffer.{bytesIn, over, writtenOf, leftOf}
-use Rattle.fields.specs.declared.Written.{Written}
-use Rattle.packets.specs.Content.{Content, contentOf, formOf}
-use Rattle.packets.specs.declared.Packet.{Packet}
+use Rattle.fields.specs.Buffer.{over}
+use Rattle.packets.specs.Content.{contentOf}
 use Rattle.reader.specs.declared.Reader.{Reader}
 use Rattle.reader.specs.declared.Received.{Received}
 use Rattle.calls.specs.declared.Status.{Status}
 use Rattle.calls.specs.declared.Status.the-variants.{Taken, Over, LongFrame, SmallReply, WrongLength}
 use Rattle.calls.specs.Checks.{isTaken}
-use Rattle.calls.specs.Count.{countOf}
-use Rattle.calls.proofs.Laws.{wrote}
 use Rattle.yapp.specs.Steps.{writes, ReceiverMove, receiverTakes}
-use Rattle.yapp_receiving.specs.declared.Settings.{Settings}
-use Rattle.yapp_receiving.specs.declared.Current.{Current}
-use Rattle.yapp_receiving.specs.declared.Step.{Step}
-use Rattle.yapp_receiving.specs.declared.Out.{Out}
-use Rattle.yapp_receiving.specs.declared.Out.the-variants.{Nothing as Silent, RR, RF, RT, RE, AF, AT, CA, CN, Room, Have, Differs, One}
-use Rattle.yapp_receiving.specs.Receiving.{Reached, reached, reachedBy, settingsBy, nowBy, contentsOf}
+use Rattle.yapp_steps.specs.declared.Step.{Step}
+use Rattle.yapp_steps.specs.Receiving.{Reached, reached, reachedBy, settingsIn, currentIn, settingsBy, nowBy}
 use Rattle.yapp_receiver.specs.declared.Receiver.{Receiver}
 use Rattle.yapp_receiver.specs.Receiver.{ReceiverAfter, refusedCall, unlessRefused, replied, settingsOf, nowOf, arrived}
-use Rattle.yapp_receiver.specs.Answers.{texts, contentIn, settingsIn, currentIn, answerBy, replyBy}
+use Rattle.yapp_receiver.specs.Answers.{answerBy, replyBy}
 
 -- ---- whether a call is taken
 
@@ -85,46 +76,12 @@ module _ (m : Receiver) (r : Reader) (taken : ℕ) (reply : List ℕ) where
       → replied m r taken v reply ≡ leaves m r taken s a reply
   replied-is v s a h = ap answered h
 
--- a packet is taken with what the receiver's fields say
-pub decided : (m : Receiver) (packet : Packet) (area a p q : List ℕ) (t : Settings) (c : Current) (s : Step) → t ≡ settingsIn (m .core)
-    → c ≡ currentIn m → p ≡ q
-    → reached (m .name) (receiverTakes (settingsBy t) (nowBy c (m .name)) area (contentOf p packet)) ≡ reachedBy p (m .name) s a
-    → reached (m .name) (receiverTakes (settingsOf m) (nowOf m) area (contentOf q packet)) ≡ reachedBy q (m .name) s a
-decided m packet area a p q t c s e f g h = rw (e, f, g) at h
-
-pub arrived-is : (m : Receiver) (g h : Received) (area reply : List ℕ) (s : Step) (a : List ℕ) → g ≡ h
-    → reached (m .name) (receiverTakes (settingsOf m) (nowOf m) area (contentOf (g .reader .pending) (g .packet)))
+pub arrived-is : (m : Receiver) (checked : Bool) (g h : Received) (area reply : List ℕ) (s : Step) (a : List ℕ) → checked ≡ m .reader .checked
+    → g ≡ h
+    → reached (m .name) (receiverTakes (settingsBy (settingsIn (m .core))) (nowBy (currentIn (m .core) checked) (m .name)) area (contentOf (g .reader .pending) (g .packet)))
     ≡ reachedBy (g .reader .pending) (m .name) s a
     → arrived m h area reply ≡ leaves m (g .reader) (g .taken) s a reply
-arrived-is m g h area reply s a e f =
+arrived-is m checked g h area reply s a k e f =
     ap (λ (x : Received). arrived m x area reply) (sym e)
     ∙ replied-is m (g .reader) (g .taken) reply
-    (receiverTakes (settingsOf m) (nowOf m) area (contentOf (g .reader .pending) (g .packet))) s a f
-
--- ---- what is sent
-
-none-sent : (checked : Bool) → [] ≡ bytesIn (formOf checked (contentIn checked Silent))
-unfolding formOf
-none-sent k = refl
-
-one-sent : (checked : Bool) (out : Out) → writes checked (contentsOf checked out) ≡ bytesIn (formOf checked (contentIn checked out))
-unfolding writes
-one-sent k Silent = none-sent k
-one-sent k RR = append-nil _
-one-sent k RF = append-nil _
-one-sent k RT = append-nil _
-one-sent k (RE position) = append-nil _
-one-sent k AF = append-nil _
-one-sent k AT = append-nil _
-one-sent k CA = append-nil _
-one-sent k CN = append-nil _
-one-sent k Room = append-nil _
-one-sent k Have = append-nil _
-one-sent k Differs = append-nil _
-one-sent k One = append-nil _
-
-pub put-is : (checked : Bool) (out : Out) (packet : Packet) (d e : List ℕ) (w : Written) → 259 ≤ length d
-    → contentOf texts packet ≡ contentIn checked out
-    → (w ≡ writtenOf 259 (formOf checked (contentOf texts packet)) d) × (e ≡ leftOf 259 (formOf checked (contentOf texts packet)) d)
-    → (countOf w ≡ length (writes checked (contentsOf checked out))) × (e ≡ over 0 (writes checked (contentsOf checked out)) d)
-put-is checked out packet d e w h q p = rw (one-sent checked out, ← q) (wrote (formOf checked (contentOf texts packet)) d e w h p)
+    (receiverTakes (settingsOf m) (nowOf m) area (contentOf (g .reader .pending) (g .packet))) s a (rw k at f)

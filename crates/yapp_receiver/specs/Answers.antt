@@ -1,26 +1,21 @@
 -- The same receiver and answers by the types that the code goes through: settings, what a receiver is, and a step.
 use Prim.Native.Nat.{ℕ}
-use mathlib.Core.Bool.{Bool, false}
-use mathlib.Core.List.{List, [], _∷_, _++_}
+use mathlib.Core.Bool.{false}
+use mathlib.Core.List.{List}
 use lib.ListN.{length, replicate}
 use Rattle.fields.specs.Lists.{bytesAt}
 use Rattle.fields.specs.Buffer.{over, appended}
-use Rattle.packets.specs.Content.{Content, rr, rf, af, at, ca, rt, nr, cn, re, unfinished}
 use Rattle.reader.specs.declared.Reader.{Reader}
 use Rattle.reader.specs.Reader.{fresh as freshReader, checking}
 use Rattle.calls.specs.declared.Keeping.{Keeping}
 use Rattle.calls.specs.declared.Status.{Status}
 use Rattle.calls.specs.declared.Status.the-variants.{Taken}
 use Rattle.yapp.specs.declared.ReceiverState.{ReceiverState}
-use Rattle.yapp.specs.Steps.{writes, roomText, haveText, differsText, oneText}
-use Rattle.yapp_receiving.specs.declared.Settings.{Settings}
-use Rattle.yapp_receiving.specs.declared.Current.{Current}
-use Rattle.yapp_receiving.specs.declared.Step.{Step}
-use Rattle.yapp_receiving.specs.declared.Out.{Out}
-use Rattle.yapp_receiving.specs.declared.Out.the-variants.{Nothing as Silent, RR, RF, RT, RE, AF, AT, CA, CN, Room, Have, Differs, One}
-use Rattle.yapp_receiving.specs.Receiving.{contentsOf}
+use Rattle.yapp.specs.Steps.{writes}
+use Rattle.yapp_steps.specs.declared.Settings.{Settings}
+use Rattle.yapp_steps.specs.declared.Step.{Step}
+use Rattle.yapp_steps.specs.Receiving.{contentsOf}
 use Rattle.yapp_receiver.specs.declared.Receiver.{Receiver}
-use Rattle.yapp_receiver.specs.declared.ReceiverCore.{ReceiverCore}
 use Rattle.yapp_receiver.specs.declared.ReceiverAnswer.{ReceiverAnswer}
 use Rattle.yapp_receiver.specs.Receiver.{ReceiverAfter, unlessRefused, statusOf}
 
@@ -33,32 +28,6 @@ begunAs st t k name = record {
 
 abbrev pub refusedBy : Receiver → Status → ReceiverAnswer
 refusedBy m s = record { receiver = m; status = s; taken = 0; sent = 0; stored = 0 }
-
-abbrev pub settingsIn : ReceiverCore → Settings
-settingsIn c = record { room = c .room; resumes = c .resumes; checks = c .checks }
-
-abbrev pub currentIn : Receiver → Current
-currentIn m = record { state = m .core .state; checked = m .reader .checked; keeping = m .core .keeping }
-
--- the texts of NR, one behind the other
-abbrev pub texts : List ℕ
-texts = roomText ++ (haveText ++ (differsText ++ oneText))
-
--- the one packet that is sent; an unfinished one, which has no form, where nothing is sent
-abbrev pub contentIn : Bool → Out → Content
-contentIn checked Silent = unfinished
-contentIn checked RR = rr
-contentIn checked RF = rf
-contentIn checked RT = rt
-contentIn checked (RE position) = re position checked
-contentIn checked AF = af
-contentIn checked AT = at
-contentIn checked CA = ca
-contentIn checked CN = cn []
-contentIn checked Room = nr roomText
-contentIn checked Have = nr haveText
-contentIn checked Differs = nr differsText
-contentIn checked One = nr oneText
 
 -- what is sent after a step
 abbrev pub sentBy : Step → List ℕ

@@ -4,42 +4,26 @@ use calls::Keeping;
 use calls::Outcome;
 use calls::RecordAnswer;
 use calls::Status;
-use fields::Place;
-use packets::Packet;
-use packets::Resume;
 use reader::Reader;
 use records::Record;
 use records::RecordRead;
 use yapp::ReceiverState;
-use yapp_receiving::Current;
-use yapp_receiving::Out;
-use yapp_receiving::Settings;
-use yapp_receiving::Step;
+use yapp_steps::ReceiverCore;
+use yapp_steps::Settings;
+use yapp_steps::Step;
 ghost use mathlib.Core.Path.{_≡_};
 ghost use mathlib.Core.List.{List, []};
 ghost use lib.ListN.{length};
 ghost use Prim.Native.Nat.{ℕ, _≤_};
-ghost use Rattle.fields.specs.Buffer.{over, appended};
-ghost use Rattle.packets.specs.Content.{contentOf};
+ghost use Rattle.fields.specs.Buffer.{appended};
 ghost use Rattle.reader.specs.Reader.{receive as reads};
 ghost use Rattle.records.specs.Saved.{savedOf};
 ghost use Rattle.calls.specs.Checks.{checkOf};
 ghost use Rattle.calls.specs.Recording.{recordAnswer, recordLeft};
-ghost use Rattle.yapp.specs.Steps.{writes, receiverEnded, receiverTakes, receiverTimes, receiverStops};
-ghost use Rattle.yapp_receiving.specs.Receiving.{contentsOf, reached, reachedBy};
-ghost use Rattle.yapp_receiver.specs.Receiver.{withSaved, settingsOf, nowOf, arrived, fresh as freshOf, resume as resumeOf, transmit as transmitOf, receive as receiveOf, timeout as timeoutOf, cancel as cancelOf, recordBy};
-ghost use Rattle.yapp_receiver.specs.Answers.{texts, contentIn, begunAs, refusedBy, settingsIn, currentIn, movedBy, answerBy, replyBy, settled};
-
-// A receiver without its buffers.
-pub struct ReceiverCore {
-    state: ReceiverState,
-    // The area's length.
-    room: usize,
-    // Whether a record is resumed, and whether checksums are wanted.
-    resumes: bool,
-    checks: bool,
-    keeping: Keeping,
-}
+ghost use Rattle.yapp.specs.Steps.{receiverEnded, receiverTimes, receiverStops};
+ghost use Rattle.yapp_steps.specs.Receiving.{reached, reachedBy};
+ghost use Rattle.yapp_receiver.specs.Receiver.{withSaved, nowOf, arrived, fresh as freshOf, resume as resumeOf, transmit as transmitOf, receive as receiveOf, timeout as timeoutOf, cancel as cancelOf, recordBy};
+ghost use Rattle.yapp_receiver.specs.Answers.{begunAs, refusedBy, movedBy, answerBy, replyBy, settled};
 
 pub struct Receiver {
     reader: Reader,
@@ -127,9 +111,10 @@ fn is_ended(state: ReceiverState) -> bool
     }
 }
 
-fn check_call(core: ReceiverCore, area: usize, reply: usize) -> Status
-    ensures { λ r. ⌜ r ≡ checkOf (receiverEnded (core .state)) reply 0 area (core .room) ⌝ }
+fn check_call(m: Receiver, area: usize, reply: usize) -> Status
+    ensures { λ r. ⌜ r ≡ checkOf (receiverEnded (m .core .state)) reply 0 area (m .core .room) ⌝ }
 {
+    let core = m.core;
     let state = core.state;
     calls::check(is_ended(state), reply, 0, area, core.room)
 }
@@ -144,68 +129,6 @@ fn refused(receiver: Receiver, status: Status) -> ReceiverAnswer
         taken: 0,
         sent: 0,
         stored: 0,
-    }
-}
-
-fn text(start: usize, len: usize) -> Packet
-    ensures { λ r. ⌜ r ≡ Packet.NR (record { start = start; len = len }) ⌝ }
-{
-    Packet::NR(Place { start, len })
-}
-
-// The packet that is sent, its text at a place in `texts`; an unfinished one, which has no form, where nothing is sent.
-fn packet_of(out: Out, checked: bool) -> Packet
-    ensures { λ r. ⌜ contentOf texts r ≡ contentIn checked out ⌝ }
-{
-    match out {
-        Out::Nothing => Packet::Open,
-        Out::RR => Packet::RR,
-        Out::RF => Packet::RF,
-        Out::RT => Packet::RT,
-        Out::RE { position } => Packet::RE(Resume { position, checked }),
-        Out::AF => Packet::AF,
-        Out::AT => Packet::AT,
-        Out::CA => Packet::CA,
-        Out::CN => Packet::CN(Place { start: 0, len: 0 }),
-        Out::Room => text(0, 4),
-        Out::Have => text(4, 4),
-        Out::Differs => text(8, 7),
-        Out::One => text(15, 3),
-    }
-}
-
-// Lays what is sent over the beginning of the reply buffer, and returns how many bytes it has.
-fn put(reply: &mut [u8], out: Out, checked: bool) -> usize
-    requires { ⌜ 259 ≤ length (now reply) ⌝ }
-    ensures { λ r. ⌜ (r ≡ length (writes checked (contentsOf checked out))) × (now (reply .exit) ≡ over 0 (writes checked (contentsOf checked out)) (now (reply .entry))) ⌝ }
-{
-    let packet = packet_of(out, checked);
-    let written = writer::write(packet, b"roomhavediffersone", checked, reply);
-    calls::count(written)
-}
-
-fn settings_of(core: ReceiverCore) -> Settings
-    ensures { λ r. ⌜ r ≡ settingsIn core ⌝ }
-{
-    Settings {
-        room: core.room,
-        resumes: core.resumes,
-        checks: core.checks,
-    }
-}
-
-fn current_of(m: Receiver) -> Current
-    ensures { λ r. ⌜ r ≡ currentIn m ⌝ }
-{
-    let core = m.core;
-    let reader = m.reader;
-    let state = core.state;
-    let keeping = core.keeping;
-    let checked = reader.checked();
-    Current {
-        state,
-        checked,
-        keeping,
     }
 }
 
@@ -240,7 +163,7 @@ fn finish(m: Receiver, reader: Reader, taken: usize, step: Step, reply: &mut [u8
     ensures { λ r. ⌜ (r ≡ answerBy m reader taken step) × (now (reply .exit) ≡ replyBy step (now (reply .entry))) ⌝ }
 {
     let out = step.out;
-    let sent = put(reply, out, step.checked);
+    let sent = yapp_replies::put(reply, out, step.checked);
     let receiver = moved(m, reader, step);
     ReceiverAnswer {
         receiver,
@@ -251,33 +174,17 @@ fn finish(m: Receiver, reader: Reader, taken: usize, step: Step, reply: &mut [u8
     }
 }
 
-// Decides what is done with a packet that a reader has found.
-fn decide(m: Receiver, found: Reader, packet: Packet, area: &mut [u8]) -> Step
-    ensures { λ r. ⌜ reached (m .name) (receiverTakes (settingsOf m) (nowOf m) (now (area .entry)) (contentOf (found .pending) packet)) ≡ reachedBy (found .pending) (m .name) r (now (area .exit)) ⌝ }
-{
-    let core = m.core;
-    let name = m.name;
-    let pending = found.pending();
-    yapp_receiving::take(
-        settings_of(core),
-        current_of(m),
-        &name,
-        packet,
-        &pending,
-        area,
-    )
-}
-
 // A call that is taken: reads the chunk, decides, and acts.
 fn arrive(m: Receiver, chunk: &[u8], area: &mut [u8], reply: &mut [u8]) -> ReceiverAnswer
     requires { ⌜ 259 ≤ length (now reply) ⌝ }
     ensures { λ r. ⌜ arrived m (reads (m .reader) (now (chunk .entry))) (now (area .entry)) (now (reply .entry)) ≡ record { answer = r; area = now (area .exit); reply = now (reply .exit) } ⌝ }
 {
+    let core = m.core;
+    let name = m.name;
     let reader = m.reader;
     let received = reader.receive(chunk);
+    let step = yapp_receiving::take(core, reader.checked(), &name, received, area);
     let found = received.reader;
-    let packet = received.packet;
-    let step = decide(m, found, packet, area);
     finish(m, found, received.taken, step, reply)
 }
 
@@ -285,25 +192,28 @@ fn arrive(m: Receiver, chunk: &[u8], area: &mut [u8], reply: &mut [u8]) -> Recei
 fn time_out(m: Receiver) -> Step
     ensures { λ r. ⌜ ((a p : List ℕ) → reached (m .name) (receiverTimes (nowOf m) a (m .core .state)) ≡ reachedBy p (m .name) r a) ⌝ }
 {
+    let core = m.core;
     let name = m.name;
-    yapp_receiving::time_out(current_of(m), &name)
+    let reader = m.reader;
+    yapp_receiving::time_out(core, reader.checked(), &name)
 }
 
 // The step of the operator's stop.
 fn stop(m: Receiver) -> Step
     ensures { λ r. ⌜ ((a p : List ℕ) → reached (m .name) (receiverStops (nowOf m) a (m .core .state)) ≡ reachedBy p (m .name) r a) ⌝ }
 {
+    let core = m.core;
     let name = m.name;
-    yapp_receiving::stop(current_of(m), &name)
+    let reader = m.reader;
+    yapp_receiving::stop(core, reader.checked(), &name)
 }
 
 // Takes a step where the call is not refused.
 fn settle(m: Receiver, step: Step, area: &[u8], reply: &mut [u8]) -> ReceiverAnswer
     ensures { λ r. ⌜ settled m step (now (area .entry)) (now (reply .entry)) ≡ record { answer = r; area = now (area .entry); reply = now (reply .exit) } ⌝ }
 {
-    let core = m.core;
     let reader = m.reader;
-    let status = check_call(core, area.len(), reply.len());
+    let status = check_call(m, area.len(), reply.len());
     if calls::is_taken(status) {
         return finish(m, reader, 0, step, reply);
     }
@@ -347,8 +257,7 @@ impl Receiver {
     pub fn transmit(self, area: &[u8], reply: &mut [u8]) -> ReceiverAnswer
         ensures { λ r. ⌜ transmitOf self (now (area .entry)) (now (reply .entry)) ≡ record { answer = r; area = now (area .entry); reply = now (reply .exit) } ⌝ }
     {
-        let core = self.core;
-        let status = check_call(core, area.len(), reply.len());
+        let status = check_call(self, area.len(), reply.len());
         refused(self, status)
     }
 
@@ -356,8 +265,7 @@ impl Receiver {
     pub fn receive(self, chunk: &[u8], area: &mut [u8], reply: &mut [u8]) -> ReceiverAnswer
         ensures { λ r. ⌜ receiveOf self (now (chunk .entry)) (now (area .entry)) (now (reply .entry)) ≡ record { answer = r; area = now (area .exit); reply = now (reply .exit) } ⌝ }
     {
-        let core = self.core;
-        let status = check_call(core, area.len(), reply.len());
+        let status = check_call(self, area.len(), reply.len());
         if calls::is_taken(status) {
             return arrive(self, chunk, area, reply);
         }

@@ -24,7 +24,7 @@ same-length c = search needs
 returns : tie.Need-returns
 unfolding settled
 returns c =
-    let g = c .before .before .before .before .before .before .before .before .before .before .before .args in
+    let g = c .before .before .before .before .before .before .before .before .before .before .args in
     unless-taken (g .m) (now (g .area)) (now (g .reply)) (leaves (g .m) (g .m .reader) 0 (g .step) (now (g .area)) (now (g .reply))) (statusOf (g .m) (now (g .area)) (now (g .reply))) (taken-by (c .before .before .before .before .before .before .check-call .ensures) (c .before .before .before .before .before .is-taken .ensures) (c .before .before .before .before .if1 .taken))
     ∙ rw (c .before .before .finish .ensures .0, c .before .before .finish .ensures .1)
 
@@ -34,7 +34,7 @@ refused-requires c κs = search needs
 returns-2 : tie.Need-returns-2
 unfolding settled
 returns-2 c =
-    let g = c .before .before .before .before .before .before .before .before .args in
+    let g = c .before .before .before .before .before .before .before .args in
     unless-refused (g .m) (now (g .area)) (now (g .reply)) (leaves (g .m) (g .m .reader) 0 (g .step) (now (g .area)) (now (g .reply))) (statusOf (g .m) (now (g .area)) (now (g .reply))) (taken-by (c .before .before .before .check-call .ensures) (c .before .before .is-taken .ensures) (c .before .if1 .left))
     ∙ rw (c .refused .ensures, c .before .before .before .check-call .ensures)
 

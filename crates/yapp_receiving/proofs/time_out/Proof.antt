@@ -1,10 +1,14 @@
 -- `time_out` goes by the state. Assumes nothing.
+use Rattle.yapp_steps.specs.Receiving.{currentIn}
 use Rattle.yapp_receiving.proofs.Moves.{times-open, times-rest}
 use mathlib.Core.Path.{sym, _∙_}
 use denote.Ref.{now}
 use borrow.Author.Needs.{needs}
 use Rattle.yapp_receiving.proofs.time_out.Statement.{statement}
 use Rattle.yapp_receiving.proofs.time_out.Tie as tie
+
+current-of-requires : tie.Need-current-of-requires
+current-of-requires c κs = search needs
 
 is-open-requires : tie.Need-is-open-requires
 is-open-requires c κs = search needs
@@ -14,8 +18,8 @@ fail-requires c κs = search needs
 
 returns : tie.Need-returns
 returns c a p =
-    let g = c .before .before .before .before .args in
-    rw (c .fail .ensures) (times-open (g .current) (now (g .name)) a p (g .current .state) (sym (c .before .before .is-open .ensures) ∙ c .before .if1 .taken))
+    let g = c .before .before .before .before .before .args in
+    rw (c .fail .ensures, c .before .before .before .current-of .ensures) (times-open (currentIn (g .core) (g .checked)) (now (g .name)) a p (g .core .state) (sym (c .before .before .is-open .ensures) ∙ c .before .if1 .taken))
 
 leave-requires : tie.Need-leave-requires
 leave-requires c κs = search needs
@@ -25,10 +29,10 @@ stay-requires c κs = search needs
 
 returns-2 : tie.Need-returns-2
 returns-2 c a p =
-    let g = c .before .before .before .before .before .args in
-    rw (c .stay .ensures, c .before .leave .ensures) (times-rest (g .current) (now (g .name)) a p (g .current .state) (sym (c .before .before .before .is-open .ensures) ∙ c .before .before .if1 .left))
+    let g = c .before .before .before .before .before .before .args in
+    rw (c .stay .ensures, c .before .leave .ensures, c .before .before .before .before .current-of .ensures) (times-rest (currentIn (g .core) (g .checked)) (now (g .name)) a p (g .core .state) (sym (c .before .before .before .is-open .ensures) ∙ c .before .before .if1 .left))
 
 pub time-out-spec : {M : Type 1} → statement M
 time-out-spec =
     tie.close
-    (tie.spec is-open-requires fail-requires returns leave-requires stay-requires returns-2)
+    (tie.spec current-of-requires is-open-requires fail-requires returns leave-requires stay-requires returns-2)

@@ -27,7 +27,7 @@ same-length-2 c = search needs
 returns : tie.Need-returns
 unfolding receive
 returns c =
-    let g = c .before .before .before .before .before .before .before .before .before .before .before .before .before .before .args in
+    let g = c .before .before .before .before .before .before .before .before .before .before .before .before .before .args in
     unless-taken (g .self) (now (g .area)) (now (g .reply)) (arrived (g .self) (reads (g .self .reader) (now (g .chunk))) (now (g .area)) (now (g .reply))) (statusOf (g .self) (now (g .area)) (now (g .reply))) (taken-by (c .before .before .before .before .before .before .before .before .before .check-call .ensures) (c .before .before .before .before .before .before .before .before .is-taken .ensures) (c .before .before .before .before .before .before .before .if1 .taken))
     ∙ c .before .before .before .before .arrive .ensures
 
@@ -37,7 +37,7 @@ refused-requires c κs = search needs
 returns-2 : tie.Need-returns-2
 unfolding receive
 returns-2 c =
-    let g = c .before .before .before .before .before .before .before .before .args in
+    let g = c .before .before .before .before .before .before .before .args in
     unless-refused (g .self) (now (g .area)) (now (g .reply)) (arrived (g .self) (reads (g .self .reader) (now (g .chunk))) (now (g .area)) (now (g .reply))) (statusOf (g .self) (now (g .area)) (now (g .reply))) (taken-by (c .before .before .before .check-call .ensures) (c .before .before .is-taken .ensures) (c .before .if1 .left))
     ∙ rw (c .refused .ensures, c .before .before .before .check-call .ensures)
 
