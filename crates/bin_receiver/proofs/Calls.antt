@@ -1,12 +1,11 @@
 -- Laws of the receiver's calls, one for each case. Assumes nothing.
 use mathlib.Core.Path.{_≡_, refl, ap, sym, _∙_}
 use mathlib.Core.Bool.{Bool, true, false, _&&_}
-use mathlib.Core.List.{List, [], _∷_, append-nil}
+use mathlib.Core.List.{List, []}
 use mathlib.Core.Option.{Option}
 use Prim.Native.Nat.{ℕ, _≤_}
 use native.Mathlib.Omega.{arith}
 use lib.ListN.{length, take, length-take}
-use Rattle.fields.specs.Buffer.{bytesIn, over, writtenOf, leftOf}
 use Rattle.fields.proofs.Lists.{same-eq}
 use Rattle.lines.specs.Frame.{starts, displayMark}
 use Rattle.records.specs.Saved.{Saved}
@@ -14,15 +13,12 @@ use Rattle.calls.specs.declared.Outcome.{Outcome}
 use Rattle.calls.specs.declared.Status.{Status}
 use Rattle.calls.specs.declared.Status.the-variants.{Taken, Over, LongFrame, SmallReply, WrongLength}
 use Rattle.calls.specs.Checks.{isTaken}
-use Rattle.calls.proofs.Laws.{wrote}
-use Rattle.bin.specs.Steps.{joined, receiverTakes, receiverFails}
+use Rattle.bin.specs.Steps.{receiverTakes, receiverFails}
 use Rattle.bin_receiver.specs.declared.Receiver.{Receiver}
 use Rattle.bin_receiver.specs.Receiver.{ReceiverAfter, refusedCall, unlessRefused, statusOf, replied, settingsOf, savedIn, shownIn, nowhere, receive}
 use Rattle.calls.specs.Saving.{heldOf}
-use Rattle.calls.specs.Count.{countOf}
-use Rattle.bin_receiving.specs.declared.Out.{Out}
-use Rattle.bin_receiving.specs.declared.Out.the-variants.{Silent, Format, Room, Have, Differs, FirstOk, SecondOk, ThirdOk, Stop}
-use Rattle.bin_receiving.specs.Deciding.{framesOf, wordsOf, frameStep, failStep, doneAs}
+use Rattle.bin_steps.specs.Steps.{doneAs}
+use Rattle.bin_receiving.specs.Deciding.{frameStep, failStep}
 use Rattle.bin_receiver.specs.Acts.{failsOf}
 use Rattle.calls.proofs.Names.{held-saved, held-held}
 use Rattle.bin_receiver.proofs.Steps.{leaves, takes-is, fails-is}
@@ -98,29 +94,7 @@ pub and-right : (a b : Bool) → b ≡ false → (a && b) ≡ false
 and-right true b q = q
 and-right false b q = refl
 
--- ---- what is said
-
 -- a frame for display has the four bytes of its mark
 pub display-long : (f : List ℕ) → starts displayMark f ≡ true → 4 ≤ length f
 unfolding starts
 display-long f h = let e : 4 ≡ length (take 4 f) = ap length (same-eq displayMark (take 4 f) h) in omega (arith, e ∙ length-take 4 f)
-
-words-are : (name : List ℕ) (out : Out) → bytesIn (wordsOf name out) ≡ joined (framesOf name out)
-unfolding wordsOf
-words-are name Silent = refl
-words-are name Format = sym (append-nil _)
-words-are name Room = sym (append-nil _)
-words-are name Have = sym (append-nil _)
-words-are name Differs = sym (append-nil _)
-words-are name FirstOk = sym (append-nil _)
-words-are name SecondOk = sym (append-nil _)
-words-are name (ThirdOk kept crc) = sym (append-nil _)
-words-are name Stop = sym (append-nil _)
-
--- what is said stands in a reply buffer that is long enough
-pub said : (name : List ℕ) (out : Out) (d e : List ℕ) (n : ℕ) → 259 ≤ length d
-    → (n ≡ countOf (writtenOf 259 (wordsOf name out) d)) × (e ≡ leftOf 259 (wordsOf name out) d)
-    → (n ≡ length (joined (framesOf name out))) × (e ≡ over 0 (joined (framesOf name out)) d)
-said name out d e n h p =
-    let w = wrote (wordsOf name out) d (leftOf 259 (wordsOf name out) d) (writtenOf 259 (wordsOf name out) d) h (refl, refl) in
-    rw (← words-are name out) (p .0 ∙ w .0, p .1 ∙ w .1)

@@ -28,13 +28,17 @@ use Rattle.bin.specs.declared.ReceiverState.{ReceiverState}
 use Rattle.bin.specs.declared.ReceiverState.the-variants.{Waiting, Basic, Extended, Ended}
 use Rattle.bin.specs.Steps.{ReceiverMove, ReceiverSettings, answers, heard, judgeWhole, judgeRecord, judgeExtended, basicAt, basicOver, judgeBasic, receiverHears, sorted, takesFrame, takesBasicFrame, receiverTakes, receiverFails}
 use Rattle.bin_receiver.specs.declared.Receiver.{Receiver}
-use Rattle.bin_receiving.specs.declared.Step.{Step}
-use Rattle.bin_receiving.specs.declared.Out.{Out}
-use Rattle.bin_receiving.specs.declared.Out.the-variants.{Silent, Format, Room, Have, Differs, FirstOk, SecondOk, ThirdOk, Stop}
+use Rattle.bin_steps.specs.declared.Step.{Step}
+use Rattle.bin_replies.specs.declared.Out.{Out}
+use Rattle.bin_replies.specs.declared.Out.the-variants.{Silent, Format, Room, Have, Differs, FirstOk, SecondOk, ThirdOk, Stop}
 use Rattle.bin_receiver.specs.Receiver.{ReceiverAfter, replied}
-use Rattle.bin_receiving.specs.Deciding.{framesOf, stepTo, goesTo, Done, doneAs, wholeStep, resumeStep, recordStep, extendedStep, basicStep, basicRecord, basicLine, waitStep, entryFrame, extendedFrame, basicFrame, sortedStep, busyStep, frameStep, failStep, nowhere}
+use Rattle.bin_replies.specs.Replies.{framesOf}
+use Rattle.bin_steps.specs.Steps.{nowhere, stepTo, goesTo, Done, doneAs, wholeStep, basicStep}
+use Rattle.bin_judging.specs.Judging.{resumeStep, recordStep, extendedStep, basicRecord, basicLine, waitStep}
+use Rattle.bin_storing.specs.Storing.{entryFrame, extendedFrame, basicFrame, sortedStep}
+use Rattle.bin_receiving.specs.Deciding.{busyStep, frameStep, failStep}
 use Rattle.bin_receiver.specs.Acts.{answerBy, replyBy}
-use Rattle.bin_receiving.proofs.Cases.{no}
+use Rattle.bin_steps.proofs.Cases.{no}
 use Rattle.calls.proofs.Names.{keep-own, keep-none}
 
 -- alike in both cases

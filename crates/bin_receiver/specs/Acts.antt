@@ -11,8 +11,8 @@ use Rattle.calls.specs.declared.Keeping.{Keeping}
 use Rattle.calls.specs.declared.Status.the-variants.{Taken}
 use Rattle.bin.specs.declared.ReceiverState.{ReceiverState}
 use Rattle.bin.specs.Steps.{joined, receiverFails}
-use Rattle.bin_receiving.specs.declared.Step.{Step}
-use Rattle.bin_receiving.specs.Deciding.{framesOf}
+use Rattle.bin_steps.specs.declared.Step.{Step}
+use Rattle.bin_replies.specs.Replies.{framesOf}
 use Rattle.bin_receiver.specs.declared.Receiver.{Receiver}
 use Rattle.bin_receiver.specs.declared.ReceiverAnswer.{ReceiverAnswer}
 use Rattle.bin_receiver.specs.Receiver.{ReceiverAfter, unlessRefused, statusOf, replied, savedIn, nowhere}

@@ -1,6 +1,6 @@
 // The #BIN# receiver.
 use bin::ReceiverState;
-use bin_receiving::Step;
+use bin_steps::Step;
 use calls::Entry;
 use calls::Keeping;
 use calls::Outcome;
@@ -168,7 +168,7 @@ fn finish(m: Receiver, step: Step, frame: &[u8], shown: Place, reply: &mut [u8])
     let place = step.name;
     let next = fields::bytes_at(frame, place);
     keep_name(&mut own, next);
-    let sent = bin_receiving::put(reply, out, next);
+    let sent = bin_replies::put(reply, out, next);
     ReceiverAnswer {
         receiver: Receiver {
             name: own,

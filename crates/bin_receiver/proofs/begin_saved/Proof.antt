@@ -1,7 +1,7 @@
 -- `begin_saved` refuses a record that is out of its limits. Assumes nothing.
 use Rattle.bin_receiver.specs.Receiver.{withSaved}
 use mathlib.Core.Path.{sym, _∙_}
-use Rattle.bin_receiving.proofs.Cases.{yes, no}
+use Rattle.bin_steps.proofs.Cases.{yes, no}
 use borrow.Author.Needs.{needs}
 use Rattle.bin_receiver.proofs.begin_saved.Statement.{statement}
 use Rattle.bin_receiver.proofs.begin_saved.Tie as tie

@@ -1,7 +1,7 @@
 -- `finish` keeps the name, writes the reply and answers. Assumes nothing.
 use mathlib.Core.Path.{refl}
 use borrow.Author.Needs.{needs}
-use Rattle.bin_receiver.proofs.Calls.{said}
+use Rattle.bin_replies.proofs.Words.{said}
 use Rattle.bin_receiver.proofs.finish.Statement.{statement}
 use Rattle.bin_receiver.proofs.finish.Tie as tie
 

@@ -4,7 +4,7 @@ use Rattle.bin_receiver.specs.Receiver.{isTaking, shownIn}
 use Rattle.bin_receiver.proofs.Calls.{and-both, and-left, and-right, display-long}
 use mathlib.Core.Path.{sym, _∙_}
 use denote.Ref.{now}
-use Rattle.bin_receiving.proofs.Cases.{yes, no}
+use Rattle.bin_steps.proofs.Cases.{yes, no}
 use borrow.Author.Needs.{needs}
 use Rattle.bin_receiver.proofs.shown_in.Statement.{statement}
 use Rattle.bin_receiver.proofs.shown_in.Tie as tie

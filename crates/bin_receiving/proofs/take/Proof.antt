@@ -2,7 +2,7 @@
 use Rattle.bin_receiving.specs.Deciding.{frameStep}
 use mathlib.Core.Path.{sym, _∙_}
 use borrow.Author.Tests.{eq-eqb, ne-eqb}
-use Rattle.bin_receiving.proofs.Cases.{yes, no}
+use Rattle.bin_steps.proofs.Cases.{yes, no}
 use borrow.Author.Needs.{needs}
 use Rattle.bin_receiving.proofs.take.Statement.{statement}
 use Rattle.bin_receiving.proofs.take.Tie as tie

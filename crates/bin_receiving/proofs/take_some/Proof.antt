@@ -6,9 +6,6 @@ use Rattle.bin_receiving.proofs.take_some.Tie as tie
 enum-told : tie.Need-enum-told
 enum-told c = search needs
 
-frame-of-requires : tie.Need-frame-of-requires
-frame-of-requires c κs = search needs
-
 hear-requires : tie.Need-hear-requires
 hear-requires c κs = search needs
 
@@ -34,7 +31,7 @@ same-length : tie.Need-same-length
 same-length c = search needs
 
 returns : tie.Need-returns
-returns c = rw (c .before .before .before .enum-told .given .1, c .hear .ensures, c .before .before .frame-of .ensures)
+returns c = rw (c .before .before .enum-told .given .1, c .hear .ensures)
 
 same-length-2 : tie.Need-same-length-2
 same-length-2 c = search needs
@@ -56,7 +53,6 @@ take-some-spec =
     tie.close
     (tie.spec
     enum-told
-    frame-of-requires
     hear-requires
     enum-known-state
     take-basic-requires

@@ -1,0 +1,92 @@
+// What a #BIN# receiver does with a frame once a line is accepted: the storing of the file.
+use bin::ReceiverState;
+use bin_replies::Out;
+use bin_steps::Step;
+use calls::Entry;
+use calls::Keeping;
+use calls::Outcome;
+use fields::Place;
+ghost use mathlib.Core.Path.{_≡_};
+ghost use Prim.Native.Nat.{_+_};
+ghost use lib.Dec.{leb};
+ghost use Rattle.bin_steps.specs.Steps.{doneAs};
+ghost use Rattle.bin_storing.specs.Storing.{entryFrame, extendedFrame, basicFrame, sortedStep};
+
+// Whether n bytes more stay within the size.
+fn fits(kept: u32, n: usize, size: u32) -> bool
+    ensures { λ r. ⌜ r ≡ leb (kept + n) size ⌝ }
+{
+    if kept <= size {
+        return n <= (size - kept) as usize;
+    }
+    false
+}
+
+// A frame of the file is stored directly behind the kept bytes, and is counted as kept in the same step.
+fn store(crc: u16, entry: Entry, frame: &[u8], area: &mut [u8]) -> Step
+    ensures { λ r. ⌜ entryFrame crc entry (now (frame .entry)) (now (area .entry)) ≡ doneAs r (now (area .exit)) ⌝ }
+{
+    let stamp = entry.stamp;
+    let from = entry.kept;
+    let n = frame.len();
+    if fits(from, n, entry.size) {
+        let at = from as usize;
+        fields::append_bytes(area, at, frame);
+        let next = Entry {
+            named: entry.named,
+            size: entry.size,
+            kept: from + n as u32,
+            stamp,
+        };
+        let name = Place { start: 0, len: 0 };
+        return bin_steps::judge_whole(crc, next, Out::Silent, n, name, area);
+    }
+    bin_steps::end(Outcome::PastSize, Keeping::Of(entry), Out::Stop, 0)
+}
+
+fn store_kept(crc: u16, keeping: Keeping, frame: &[u8], area: &mut [u8]) -> Step
+    ensures { λ r. ⌜ extendedFrame crc keeping (now (frame .entry)) (now (area .entry)) ≡ doneAs r (now (area .exit)) ⌝ }
+{
+    match keeping {
+        Keeping::Nothing => bin_steps::end(Outcome::PastSize, Keeping::Nothing, Out::Stop, 0),
+        Keeping::Of(e) => store(crc, e, frame, area),
+    }
+}
+
+// The same in a basic transfer.
+fn store_basic(size: u32, kept: u32, keeping: Keeping, frame: &[u8], area: &mut [u8]) -> Step
+    ensures { λ r. ⌜ basicFrame size kept keeping (now (frame .entry)) (now (area .entry)) ≡ doneAs r (now (area .exit)) ⌝ }
+{
+    let n = frame.len();
+    if fits(kept, n, size) {
+        fields::append_bytes(area, kept as usize, frame);
+        return bin_steps::basic_at(size, kept + n as u32, keeping, Out::Silent, n);
+    }
+    bin_steps::end(Outcome::PastSize, keeping, Out::Stop, 0)
+}
+
+// A frame of an extended transfer that was accepted.
+pub fn take_extended(crc: u16, keeping: Keeping, frame: &[u8], area: &mut [u8]) -> Step
+    ensures { λ r. ⌜ sortedStep (ReceiverState.Extended crc) keeping (now (frame .entry)) (now (area .entry)) (extendedFrame crc keeping (now (frame .entry)) (now (area .entry))) ≡ doneAs r (now (area .exit)) ⌝ }
+{
+    if lines::is_display(frame) {
+        return bin_steps::go(ReceiverState::Extended { crc }, keeping, Out::Silent, 0);
+    }
+    if lines::is_stop(frame) {
+        return bin_steps::end(Outcome::Cancelled, keeping, Out::Silent, 0);
+    }
+    store_kept(crc, keeping, frame, area)
+}
+
+// The same in a basic transfer.
+pub fn take_basic(size: u32, kept: u32, keeping: Keeping, frame: &[u8], area: &mut [u8]) -> Step
+    ensures { λ r. ⌜ sortedStep (ReceiverState.Basic size kept) keeping (now (frame .entry)) (now (area .entry)) (basicFrame size kept keeping (now (frame .entry)) (now (area .entry))) ≡ doneAs r (now (area .exit)) ⌝ }
+{
+    if lines::is_display(frame) {
+        return bin_steps::go(ReceiverState::Basic { size, kept }, keeping, Out::Silent, 0);
+    }
+    if lines::is_stop(frame) {
+        return bin_steps::end(Outcome::Cancelled, keeping, Out::Silent, 0);
+    }
+    store_basic(size, kept, keeping, frame, area)
+}
