@@ -1,7 +1,7 @@
 -- The receiver of #BIN#: its beginnings, and what each call answers and leaves. (Document 01, "Lines of #BIN#", "The saved record", "Numbers
 -- that refuse or end".)
 use Prim.Native.Nat.{ℕ}
-use mathlib.Core.Bool.{Bool, true, false, _&&_}
+use mathlib.Core.Bool.{Bool, _&&_}
 use mathlib.Core.List.{List, []}
 use mathlib.Core.Option.{Option, none, some}
 use lib.ListN.{length, replicate}
@@ -9,7 +9,6 @@ use lib.Dec.{leb}
 use Rattle.fields.specs.Pick.{pick}
 use Rattle.fields.specs.Buffer.{Form, over, appended}
 use Rattle.fields.specs.declared.Place.{Place}
-use Rattle.lines.specs.Frame.{starts, displayMark, shownOf}
 use Rattle.records.specs.declared.RecordRead.{RecordRead}
 use Rattle.records.specs.declared.RecordRead.the-variants.{Good, Unreadable}
 use Rattle.records.specs.Record.{recordOf}
@@ -21,7 +20,9 @@ use Rattle.calls.specs.declared.Status.the-variants.{Taken, Over, LongFrame, Sm
 use Rattle.calls.specs.Checks.{checkOf}
 use Rattle.calls.specs.Saving.{savedBy, keepingOf, nameOf, formBy}
 use Rattle.bin.specs.declared.ReceiverState.{ReceiverState}
-use Rattle.bin.specs.declared.ReceiverState.the-variants.{Waiting, Basic, Extended, Ended}
+use Rattle.bin.specs.declared.ReceiverState.the-variants.{Waiting, Ended}
+pub use Rattle.bin_steps.specs.Steps.{nowhere}
+pub use Rattle.bin_checks.specs.Shown.{shownIn}
 use Rattle.bin_receiver.specs.declared.Receiver.{Receiver}
 use Rattle.bin_receiver.specs.declared.ReceiverAnswer.{ReceiverAnswer}
 use Rattle.bin.specs.Steps.{joined, ReceiverSettings, ReceiverMove, receiverTakes, receiverFails, receiverEnded}
@@ -67,9 +68,6 @@ settingsOf m = record { room = m .core .room; resumes = m .core .resumes }
 abbrev pub savedIn : Receiver → Option Saved
 savedIn m = savedBy (m .core .keeping) (m .name)
 
-abbrev pub nowhere : Place
-nowhere = record { start = 0; len = 0 }
-
 -- a refused call changes nothing anywhere
 abbrev pub refusedCall : Receiver → Status → List ℕ → List ℕ → ReceiverAfter
 refusedCall m s area reply =
@@ -105,16 +103,6 @@ unlessRefused WrongLength m area reply after = refusedCall m WrongLength area re
 -- leave changes nothing
 unfoldable pub transmit : Receiver → List ℕ → List ℕ → ReceiverAfter
 transmit m area reply = refusedCall m (statusOf m 0 area reply) area reply
-
--- a display frame of an accepted transfer: the text behind `SP\-`
-abbrev pub isTaking : ReceiverState → Bool
-isTaking Waiting = false
-isTaking (Basic size kept) = true
-isTaking (Extended crc) = true
-isTaking (Ended o) = false
-
-unfoldable pub shownIn : ReceiverState → List ℕ → Place
-shownIn st f = pick (isTaking st && starts displayMark f) (shownOf f) nowhere
 
 -- a frame has arrived
 unfoldable pub receive : Receiver → List ℕ → List ℕ → List ℕ → ReceiverAfter

@@ -1,24 +1,16 @@
 // The #BIN# receiver.
 use bin::ReceiverState;
-use bin_steps::Step;
-use calls::Entry;
+use bin_calls::Answer;
 use calls::Keeping;
 use calls::Outcome;
 use calls::RecordAnswer;
 use calls::Status;
 use fields::Place;
-use records::Record;
-use records::RecordRead;
 ghost use mathlib.Core.Path.{_≡_};
-ghost use lib.ListN.{length};
-ghost use Prim.Native.Nat.{_≤_};
 ghost use Rattle.fields.specs.Buffer.{appended};
-ghost use Rattle.records.specs.Saved.{savedOf};
-ghost use Rattle.calls.specs.Checks.{checkOf};
-ghost use Rattle.bin.specs.Steps.{receiverEnded};
-ghost use Rattle.bin_receiver.specs.Acts.{begunAs, answerBy, replyBy, failsOf};
-ghost use Rattle.bin_receiver.specs.Receiver.{fresh as freshOf, resume as resumeOf, withSaved, isTaking, shownIn, transmit as transmitOf, receive as receiveOf, timeout as timeoutOf, cancel as cancelOf, recordBy};
 ghost use Rattle.calls.specs.Recording.{recordAnswer, recordLeft};
+ghost use Rattle.bin_receiver.specs.Acts.{begunAs, answeredBy, failsOf};
+ghost use Rattle.bin_receiver.specs.Receiver.{fresh as freshOf, resume as resumeOf, transmit as transmitOf, receive as receiveOf, timeout as timeoutOf, cancel as cancelOf, recordBy};
 
 pub struct ReceiverCore {
     state: ReceiverState,
@@ -74,46 +66,6 @@ fn begin(
     }
 }
 
-// From a record; kept over size, or size over area, is 2.
-fn begin_saved(r: Record, bytes: &[u8], room: usize, resumes: bool) -> Receiver
-    ensures { λ m. ⌜ m ≡ withSaved room resumes (savedOf (now (bytes .entry)) r) ⌝ }
-{
-    let place = r.name;
-    let stamp = r.stamp;
-    let name = fields::bytes_at(bytes, place);
-    if calls::is_within(r.kept, r.size, room) {
-        let keeping = Keeping::Of(Entry {
-            named: name.len(),
-            size: r.size,
-            kept: r.kept,
-            stamp,
-        });
-        return begin(ReceiverState::Waiting, room, resumes, keeping, name);
-    }
-    let over = ReceiverState::Ended {
-        outcome: Outcome::RecordOver,
-    };
-    begin(over, room, resumes, Keeping::Nothing, b"")
-}
-
-fn is_ended(state: ReceiverState) -> bool
-    ensures { λ r. ⌜ r ≡ receiverEnded state ⌝ }
-{
-    match state {
-        ReceiverState::Waiting => false,
-        ReceiverState::Basic { size: _, kept: _ } => false,
-        ReceiverState::Extended { crc: _ } => false,
-        ReceiverState::Ended { outcome: _ } => true,
-    }
-}
-
-fn check_call(core: ReceiverCore, frame: usize, area: usize, reply: usize) -> Status
-    ensures { λ r. ⌜ r ≡ checkOf (receiverEnded (core .state)) reply frame area (core .room) ⌝ }
-{
-    let state = core.state;
-    calls::check(is_ended(state), reply, frame, area, core.room)
-}
-
 // A refused call changes nothing.
 fn refused(receiver: Receiver, status: Status) -> ReceiverAnswer
     ensures { λ r. ⌜ r ≡ record { receiver = receiver; status = status; sent = 0; stored = 0; shown = record { start = 0; len = 0 } } ⌝ }
@@ -128,60 +80,27 @@ fn refused(receiver: Receiver, status: Status) -> ReceiverAnswer
     }
 }
 
-// Whether a line was accepted.
-fn is_taking(state: ReceiverState) -> bool
-    ensures { λ r. ⌜ r ≡ isTaking state ⌝ }
+// The receiver after a call, and what the call answers.
+fn answered(room: usize, resumes: bool, name: [u8; 64], answer: Answer) -> ReceiverAnswer
+    ensures { λ r. ⌜ r ≡ answeredBy room resumes name answer ⌝ }
 {
-    match state {
-        ReceiverState::Waiting => false,
-        ReceiverState::Basic { size: _, kept: _ } => true,
-        ReceiverState::Extended { crc: _ } => true,
-        ReceiverState::Ended { outcome: _ } => false,
-    }
-}
-
-// Where text to show stands in the frame.
-fn shown_in(state: ReceiverState, frame: &[u8]) -> Place
-    ensures { λ r. ⌜ r ≡ shownIn state (now (frame .entry)) ⌝ }
-{
-    if is_taking(state) {
-        if lines::is_display(frame) {
-            return Place {
-                start: 4,
-                len: frame.len() - 4,
-            };
-        }
-    }
-    Place { start: 0, len: 0 }
-}
-
-// Keeps the name, says what is to be said, and answers.
-fn finish(m: Receiver, step: Step, frame: &[u8], shown: Place, reply: &mut [u8]) -> ReceiverAnswer
-    requires { ⌜ 259 ≤ length (now reply) ⌝ }
-    ensures { λ r. ⌜ (r ≡ answerBy m shown (now (frame .entry)) step) × (now (reply .exit) ≡ replyBy (now (frame .entry)) step (now (reply .entry))) ⌝ }
-{
-    let core = m.core;
-    let mut own = m.name;
-    let state = step.state;
-    let keeping = step.keeping;
-    let out = step.out;
-    let place = step.name;
-    let next = fields::bytes_at(frame, place);
-    keep_name(&mut own, next);
-    let sent = bin_replies::put(reply, out, next);
+    let state = answer.state;
+    let keeping = answer.keeping;
+    let status = answer.status;
+    let shown = answer.shown;
     ReceiverAnswer {
         receiver: Receiver {
-            name: own,
+            name,
             core: ReceiverCore {
                 state,
-                room: core.room,
-                resumes: core.resumes,
+                room,
+                resumes,
                 keeping,
             },
         },
-        status: Status::Taken,
-        sent,
-        stored: step.stored,
+        status,
+        sent: answer.sent,
+        stored: answer.stored,
         shown,
     }
 }
@@ -193,15 +112,9 @@ fn fail(m: Receiver, outcome: Outcome, area: &[u8], reply: &mut [u8]) -> Receive
     let core = m.core;
     let state = core.state;
     let keeping = core.keeping;
-    let name = m.name;
-    let status = check_call(core, 0, area.len(), reply.len());
-    if calls::is_taken(status) {
-        let held = calls::held(keeping, &name);
-        let step = bin_receiving::fail(outcome, state, held);
-        let shown = Place { start: 0, len: 0 };
-        return finish(m, step, b"", shown, reply);
-    }
-    refused(m, status)
+    let mut name = m.name;
+    let answer = bin_calls::fail(outcome, core.room, state, keeping, &mut name, area, reply);
+    answered(core.room, core.resumes, name, answer)
 }
 
 impl Receiver {
@@ -223,13 +136,12 @@ impl Receiver {
     pub fn resume(bytes: &[u8], room: usize, resumes: bool) -> Self
         ensures { λ r. ⌜ r ≡ resumeOf (now (bytes .entry)) room resumes ⌝ }
     {
-        let RecordRead::Good(r) = record_reader::record_of(bytes) else {
-            let unreadable = ReceiverState::Ended {
-                outcome: Outcome::RecordUnreadable,
-            };
-            return begin(unreadable, room, resumes, Keeping::Nothing, b"");
-        };
-        begin_saved(r, bytes, room, resumes)
+        let begun = bin_checks::begin(bytes, room);
+        let state = begun.state;
+        let keeping = begun.keeping;
+        let place = begun.name;
+        let name = fields::bytes_at(bytes, place);
+        begin(state, room, resumes, keeping, name)
     }
 
     // A chance to send; a receiver has nothing to send.
@@ -237,7 +149,8 @@ impl Receiver {
         ensures { λ r. ⌜ transmitOf self (now (area .entry)) (now (reply .entry)) ≡ record { answer = r; area = now (area .entry); reply = now (reply .exit) } ⌝ }
     {
         let core = self.core;
-        let status = check_call(core, 0, area.len(), reply.len());
+        let state = core.state;
+        let status = bin_checks::check(state, reply.len(), 0, area.len(), core.room);
         refused(self, status)
     }
 
@@ -248,23 +161,18 @@ impl Receiver {
         let core = self.core;
         let state = core.state;
         let keeping = core.keeping;
-        let name = self.name;
-        let status = check_call(core, frame.len(), area.len(), reply.len());
-        if calls::is_taken(status) {
-            let held = calls::held(keeping, &name);
-            let step = bin_receiving::take(
-                core.room,
-                core.resumes,
-                state,
-                held,
-                frame,
-                &name,
-                area,
-            );
-            let shown = shown_in(state, frame);
-            return finish(self, step, frame, shown, reply);
-        }
-        refused(self, status)
+        let mut name = self.name;
+        let answer = bin_calls::receive(
+            core.room,
+            core.resumes,
+            state,
+            keeping,
+            &mut name,
+            frame,
+            area,
+            reply,
+        );
+        answered(core.room, core.resumes, name, answer)
     }
 
     // The timer has run out.

@@ -1,4 +1,4 @@
--- The decisions on a frame, a timeout and a stop, over numbers and enums. The laws of `bin_receiver` carry them to the definitions of `bin`.
+-- The decisions on a frame, a timeout and a stop, over numbers and enums. The laws of `bin_calls` carry them to the definitions of `bin`.
 use Prim.Native.Nat.{ℕ}
 use mathlib.Core.Bool.{Bool}
 use mathlib.Core.List.{List}

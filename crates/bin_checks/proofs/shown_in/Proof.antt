@@ -1,13 +1,13 @@
 -- `shown_in` is the place behind the mark, whose four bytes the frame has. Assumes nothing.
 use Rattle.lines.specs.Frame.{starts, displayMark}
-use Rattle.bin_receiver.specs.Receiver.{isTaking, shownIn}
-use Rattle.bin_receiver.proofs.Calls.{and-both, and-left, and-right, display-long}
+use Rattle.bin_checks.specs.Shown.{isTaking, shownIn}
+use Rattle.bin_checks.proofs.Tests.{and-both, and-left, and-right, display-long}
 use mathlib.Core.Path.{sym, _∙_}
 use denote.Ref.{now}
 use Rattle.bin_steps.proofs.Cases.{yes, no}
 use borrow.Author.Needs.{needs}
-use Rattle.bin_receiver.proofs.shown_in.Statement.{statement}
-use Rattle.bin_receiver.proofs.shown_in.Tie as tie
+use Rattle.bin_checks.proofs.shown_in.Statement.{statement}
+use Rattle.bin_checks.proofs.shown_in.Tie as tie
 
 is-taking-requires : tie.Need-is-taking-requires
 is-taking-requires c κs = search needs
