@@ -1,27 +1,22 @@
 -- A call is taken, or refused. Assumes nothing.
 use mathlib.Core.Path.{_≡_, refl, sym, ap, _∙_}
-use mathlib.Core.Bool.{Bool, true, false, _&&_}
-use mathlib.Core.List.{List, []}
+use mathlib.Core.Bool.{Bool, true, false}
+use mathlib.Core.List.{List}
 use Prim.Native.Nat.{ℕ, _≤_}
 use native.Mathlib.Omega.{arith}
-use lib.ListN.{length, take}
-use lib.Dec.{eqb}
-use Rattle.fields.specs.Pick.{pick}
+use lib.ListN.{length}
 use Rattle.fields.specs.declared.Place.{Place}
-use Rattle.spans.specs.Span.{sizeOf}
-use Rattle.packets.specs.Packet.{placeOf}
-use Rattle.packets.specs.Content.{contentOf}
-use Rattle.packets.specs.Kind.{TX, partsOf}
+use Rattle.reader.specs.declared.Reader.{Reader}
 use Rattle.reader.specs.declared.Received.{Received}
 use Rattle.calls.specs.declared.Status.{Status}
 use Rattle.calls.specs.declared.Status.the-variants.{Taken, Over, LongFrame, SmallReply, WrongLength}
 use Rattle.calls.specs.Checks.{isTaken}
 use Rattle.calls.proofs.Laws.{taken-room}
 use Rattle.yapp.specs.Steps.{SenderMove, senderEnded, senderTakes}
-use Rattle.yapp.proofs.KindLaws.{kind-same}
+use Rattle.yapp_core.specs.Core.{nowhere, shownIn}
 use Rattle.yapp_sender.specs.declared.Sender.{Sender}
 use Rattle.yapp_sender.specs.declared.SenderAnswer.{SenderAnswer}
-use Rattle.yapp_sender.specs.Sender.{SenderAfter, settingsOf, nowhere, statusOf, replied, refusedCall, unlessRefused, isSD, shownIn, heard, arrived}
+use Rattle.yapp_sender.specs.Sender.{SenderAfter, settingsOf, statusOf, replied, refusedCall, unlessRefused, heard, arrived}
 
 module _ (m : Sender) (reply : List ℕ) (after : SenderAfter) where
   unless-taken : (s : Status) → isTaken s ≡ true → unlessRefused s m reply after ≡ after
@@ -46,19 +41,8 @@ module _ (m : Sender) (file reply : List ℕ) (s : Status) (b : Bool) (is : s �
   pub has-room : b ≡ true → 259 ≤ length reply
   has-room h = taken-room (senderEnded (m .core .state)) (length reply) 0 (length file) (m .core .size) (taken-so h) .0
 
-  pub file-fits : b ≡ true → m .core .size ≤ 4294967295 → length file ≤ 4294967295
-  file-fits h g =
-      let e = taken-room (senderEnded (m .core .state)) (length reply) 0 (length file) (m .core .size) (taken-so h) .2 in
-      omega arith
-
   pub call-taken : (after x : SenderAfter) → b ≡ true → after ≡ x → unlessRefused (statusOf m file reply) m reply after ≡ x
   call-taken after x h w = unless-taken m reply after (statusOf m file reply) (taken-so h) ∙ w
-
-  -- the code decided the move w, which is the call's a, and answered x
-  pub call-settled : (a w : SenderMove) (x : SenderAfter) → b ≡ true → w ≡ a → replied m (m .reader) 0 nowhere w reply ≡ x
-      → unlessRefused (statusOf m file reply) m reply (replied m (m .reader) 0 nowhere a reply) ≡ x
-  call-settled a w x h q z =
-      call-taken (replied m (m .reader) 0 nowhere a reply) x h (ap (λ (y : SenderMove). replied m (m .reader) 0 nowhere y reply) (sym q) ∙ z)
 
   pub call-refused : (after : SenderAfter) (r : SenderAnswer) → b ≡ false
       → r ≡ record { sender = m; status = s; taken = 0; sent = 0; shown = nowhere }
@@ -66,13 +50,31 @@ module _ (m : Sender) (file reply : List ℕ) (s : Status) (b : Bool) (is : s �
   call-refused after r h q =
       unless-refused m reply after (statusOf m file reply) (ap isTaken (sym is) ∙ sym told ∙ h) ∙ rw (← is, q)
 
--- the code made of what arrived the move w and the place p, and answered x
-pub call-arrived : (m : Sender) (g : Received) (reply : List ℕ) (kind : ℕ) (p : Place) (w : SenderMove) (x : SenderAfter)
-    → kind ≡ partsOf (contentOf [] (g .packet)) .kind
-    → p ≡ pick (isSD (m .core .state) && eqb kind TX) (placeOf (g .reader .checked) (take (sizeOf (g .found)) (g .reader .pending))) nowhere
-    → w ≡ senderTakes (settingsOf m) (m .core .state) (m .reader .checked) (heard g) → replied m (g .reader) (g .taken) p w reply ≡ x
-    → arrived m g reply ≡ x
-unfolding shownIn
-call-arrived m g reply kind p w x k q v z =
-    let e : partsOf (heard g) .kind ≡ kind = kind-same (g .reader .pending) (g .packet) ∙ sym k in
-    rw (e, ← q, ← v) z
+-- what a call that is taken leaves has to be known only there
+unless-same : (m : Sender) (reply : List ℕ) (a b : SenderAfter) (s : Status) → (isTaken s ≡ true → a ≡ b)
+    → unlessRefused s m reply a ≡ unlessRefused s m reply b
+unless-same m reply a b Taken h = h refl
+unless-same m reply a b Over h = refl
+unless-same m reply a b LongFrame h = refl
+unless-same m reply a b SmallReply h = refl
+unless-same m reply a b WrongLength h = refl
+
+module _ (m : Sender) (file reply : List ℕ) where
+  -- the code decided the move w, which is the call's a, and answered x
+  pub call-settled : (a w : SenderMove) (x : SenderAfter) → m .core .size ≤ 4294967295 → (length file ≤ 4294967295 → w ≡ a)
+      → unlessRefused (statusOf m file reply) m reply (replied m (m .reader) 0 nowhere w reply) ≡ x
+      → unlessRefused (statusOf m file reply) m reply (replied m (m .reader) 0 nowhere a reply) ≡ x
+  call-settled a w x n q z =
+      unless-same m reply (replied m (m .reader) 0 nowhere a reply) (replied m (m .reader) 0 nowhere w reply) (statusOf m file reply) (λ (h : isTaken (statusOf m file reply) ≡ true). ap (λ (y : SenderMove). replied m (m .reader) 0 nowhere y reply) (sym (q (fits h)))) ∙ z
+    where
+      fits : isTaken (statusOf m file reply) ≡ true → length file ≤ 4294967295
+      fits h =
+          let e = taken-room (senderEnded (m .core .state)) (length reply) 0 (length file) (m .core .size) h .2 in
+          omega arith
+
+  -- the code made of what arrived the move w and the place p, and answered x
+  pub call-arrived : (g : Received) (p : Place) (w : SenderMove) (x : SenderAfter) → p ≡ shownIn (m .core .state) (heard g) g
+      → w ≡ senderTakes (settingsOf m) (m .core .state) (m .reader .checked) (heard g)
+      → unlessRefused (statusOf m file reply) m reply (replied m (g .reader) (g .taken) p w reply) ≡ x
+      → unlessRefused (statusOf m file reply) m reply (arrived m g reply) ≡ x
+  call-arrived g p w x q v z = rw (← q, ← v) z

@@ -1,3 +1,3 @@
 pub mod Tags
-pub mod Acting
 pub mod Calls
+pub mod Begins

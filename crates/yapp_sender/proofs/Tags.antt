@@ -9,7 +9,6 @@ use Rattle.yapp.specs.declared.SenderState.{SenderState}
 use Rattle.yapp.specs.declared.SenderState.the-variants.{S, SH, SD, SE, ST, CW, Ended}
 use Rattle.yapp.proofs.SenderState.{the-type}
 use Rattle.yapp.specs.Steps.{senderEnded}
-use Rattle.yapp_sender.specs.Sender.{isSD}
 
 pub not-ended : (s : SenderState) → OneOf (0 ∷ 1 ∷ 2 ∷ 3 ∷ 4 ∷ 5 ∷ []) (tagOf the-type s) → false ≡ senderEnded s
 not-ended (S begun timeouts) k = refl
@@ -19,12 +18,3 @@ not-ended SE k = refl
 not-ended ST k = refl
 not-ended (CW o) k = refl
 not-ended (Ended o) k = absurd (miss (0 ∷ 1 ∷ 2 ∷ 3 ∷ 4 ∷ 5 ∷ []) 6 tt k)
-
-pub not-sd : (s : SenderState) → OneOf (0 ∷ 1 ∷ 3 ∷ 4 ∷ 5 ∷ 6 ∷ []) (tagOf the-type s) → false ≡ isSD s
-not-sd (S begun timeouts) k = refl
-not-sd SH k = refl
-not-sd (SD n) k = absurd (miss (0 ∷ 1 ∷ 3 ∷ 4 ∷ 5 ∷ 6 ∷ []) 2 tt k)
-not-sd SE k = refl
-not-sd ST k = refl
-not-sd (CW o) k = refl
-not-sd (Ended o) k = refl

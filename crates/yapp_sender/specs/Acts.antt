@@ -1,16 +1,13 @@
--- The beginning behind the test of the name.
+-- A call with which no bytes come.
 use Prim.Native.Nat.{ℕ}
-use mathlib.Core.Bool.{Bool, _&&_}
 use mathlib.Core.List.{List}
-use lib.Dec.{leb}
-use Rattle.fields.specs.Pick.{pick}
-use Rattle.fields.specs.declared.Stamp.{Stamp}
-use Rattle.calls.specs.declared.Outcome.the-variants.{LengthOutside, BlockOutside}
+use Rattle.yapp_core.specs.Core.{nowhere}
+use Rattle.yapp_sending.specs.declared.Event.{Event}
+use Rattle.yapp_sending.specs.Sending.{happensBy}
 use Rattle.yapp_sender.specs.declared.Sender.{Sender}
-use Rattle.yapp_sender.specs.Sender.{begunSender, refusedBegin}
+use Rattle.yapp_sender.specs.Sender.{SenderAfter, settingsOf, statusOf, replied, unlessRefused}
 
-abbrev pub withinLimits : List ℕ → ℕ → ℕ → Stamp → Bool → Sender
-withinLimits name size block stamp resumes =
-    pick (leb size 99999999)
-    (pick (leb 1 block && leb block 256) (begunSender name size block stamp resumes) (refusedBegin BlockOutside))
-    (refusedBegin LengthOutside)
+abbrev pub settledBy : Event → Sender → List ℕ → List ℕ → SenderAfter
+settledBy event m file reply =
+    unlessRefused (statusOf m file reply) m reply
+    (replied m (m .reader) 0 nowhere (happensBy (settingsOf m) file event (m .core .state) (m .reader .checked)) reply)

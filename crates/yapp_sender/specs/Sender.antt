@@ -1,56 +1,38 @@
 -- The sender: its beginning, and what each call answers and leaves. (Document 01, "Steps of YAPP", "Numbers that refuse or end".)
 use Prim.Native.Nat.{ℕ}
-use mathlib.Core.Bool.{Bool, true, false, _&&_}
-use mathlib.Core.List.{List, []}
-use lib.ListN.{length, take, replicate}
-use lib.Dec.{leb, eqb}
-use Rattle.fields.specs.Pick.{pick}
-use Rattle.fields.specs.Name.{isName}
+use mathlib.Core.Bool.{Bool, false}
+use mathlib.Core.List.{List}
+use lib.ListN.{length, replicate}
 use Rattle.fields.specs.Buffer.{over, appended}
 use Rattle.fields.specs.declared.Place.{Place}
 use Rattle.fields.specs.declared.Stamp.{Stamp}
-use Rattle.fields.specs.declared.Stamp.the-variants.{Absent}
-use Rattle.spans.specs.Span.{sizeOf}
-use Rattle.packets.specs.Packet.{placeOf}
-use Rattle.packets.specs.Kind.{TX, partsOf}
 use Rattle.packets.specs.Content.{Content, contentOf}
 use Rattle.reader.specs.declared.Reader.{Reader}
 use Rattle.reader.specs.declared.Received.{Received}
 use Rattle.reader.specs.Reader.{fresh, checking, receive as reads}
 use Rattle.calls.specs.declared.Outcome.{Outcome}
-use Rattle.calls.specs.declared.Outcome.the-variants.{NameOutside, LengthOutside, BlockOutside}
 use Rattle.calls.specs.declared.Status.{Status}
 use Rattle.calls.specs.declared.Status.the-variants.{Taken, Over, LongFrame, SmallReply, WrongLength}
 use Rattle.calls.specs.Checks.{checkOf}
-use Rattle.yapp.specs.declared.SenderState.{SenderState}
-use Rattle.yapp.specs.declared.SenderState.the-variants.{S, SH, SD, SE, ST, CW, Ended}
+use Rattle.yapp.specs.Steps.{writes, SenderSettings, SenderMove, senderTakes, senderLeaves, senderTimes, senderStops, senderEnded}
+use Rattle.yapp_core.specs.Core.{refusedCore, begunCore, begunWithin, settingsBy, nowhere, shownIn}
 use Rattle.yapp_sender.specs.declared.Sender.{Sender}
 use Rattle.yapp_sender.specs.declared.SenderAnswer.{SenderAnswer}
-use Rattle.yapp.specs.Steps.{writes, SenderSettings, SenderMove, senderTakes, senderLeaves, senderTimes, senderStops, senderEnded}
 
 -- ---- the beginning: 3, 4, 5 in this order
 
 abbrev pub refusedBegin : Outcome → Sender
-refusedBegin o = record {
-  reader = fresh false;
-  name = replicate 64 0;
-  core = record { state = Ended o; named = 0; size = 0; block = 0; stamp = Absent; resumes = false };
-}
+refusedBegin o = record { reader = fresh false; name = replicate 64 0; core = refusedCore o }
 
 abbrev pub begunSender : List ℕ → ℕ → ℕ → Stamp → Bool → Sender
 begunSender name size block stamp resumes = record {
   reader = fresh false;
   name = appended 0 name (replicate 64 0);
-  core = record { state = S false 0; named = length name; size = size; block = block; stamp = stamp; resumes = resumes };
+  core = begunCore (length name) size block stamp resumes;
 }
 
 unfoldable pub begin : List ℕ → ℕ → ℕ → Stamp → Bool → Sender
-begin name size block stamp resumes =
-    pick (isName name)
-    (pick (leb size 99999999)
-    (pick (leb 1 block && leb block 256) (begunSender name size block stamp resumes) (refusedBegin BlockOutside))
-    (refusedBegin LengthOutside))
-    (refusedBegin NameOutside)
+begin name size block stamp resumes = begunWithin name size block (begunSender name size block stamp resumes) refusedBegin
 
 -- ---- the calls
 
@@ -60,16 +42,7 @@ pub record SenderAfter : Type 0 where
   pub reply : List ℕ
 
 abbrev pub settingsOf : Sender → SenderSettings
-settingsOf m = record {
-  name = take (m .core .named) (m .name);
-  size = m .core .size;
-  block = m .core .block;
-  stamp = m .core .stamp;
-  resumes = m .core .resumes;
-}
-
-abbrev pub nowhere : Place
-nowhere = record { start = 0; len = 0 }
+settingsOf m = settingsBy (m .core) (m .name)
 
 -- a refused call changes nothing anywhere
 abbrev pub refusedCall : Sender → Status → List ℕ → SenderAfter
@@ -118,20 +91,6 @@ unfoldable pub transmit : Sender → List ℕ → List ℕ → SenderAfter
 transmit m file reply =
     unlessRefused (statusOf m file reply) m reply
     (replied m (m .reader) 0 nowhere (senderLeaves (settingsOf m) file (m .core .state) (m .reader .checked)) reply)
-
-abbrev pub isSD : SenderState → Bool
-isSD (S begun timeouts) = false
-isSD SH = false
-isSD (SD n) = true
-isSD SE = false
-isSD ST = false
-isSD (CW o) = false
-isSD (Ended o) = false
-
--- SD passes TX on for display: where the text stands in the pending bytes
-unfoldable pub shownIn : SenderState → Content → Received → Place
-shownIn st c g =
-    pick (isSD st && eqb (partsOf c .kind) TX) (placeOf (g .reader .checked) (take (sizeOf (g .found)) (g .reader .pending))) nowhere
 
 abbrev pub heard : Received → Content
 heard g = contentOf (g .reader .pending) (g .packet)

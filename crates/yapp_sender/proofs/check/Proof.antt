@@ -4,9 +4,6 @@ use borrow.Author.Needs.{needs}
 use Rattle.yapp_sender.proofs.check.Statement.{statement}
 use Rattle.yapp_sender.proofs.check.Tie as tie
 
-state-requires : tie.Need-state-requires
-state-requires c κs = search needs
-
 is-ended-requires : tie.Need-is-ended-requires
 is-ended-requires c κs = search needs
 
@@ -17,8 +14,8 @@ check-requires : tie.Need-check-requires
 check-requires c κs = search needs
 
 returns : tie.Need-returns
-returns c = c .check .ensures ∙ rw (c .before .before .is-ended .ensures, c .before .before .before .state .ensures)
+returns c = c .check .ensures ∙ rw (c .before .before .is-ended .ensures)
 
 pub check-spec : {M : Type 1} → statement M
 check-spec =
-    tie.close (tie.spec state-requires is-ended-requires cast-check check-requires returns)
+    tie.close (tie.spec is-ended-requires cast-check check-requires returns)

@@ -3,7 +3,7 @@ use native.Mathlib.Omega.{arith}
 use borrow.Author.Tests.{lt-ltb, le-ltb}
 use denote.Ref.{now}
 use Rattle.yapp.specs.Steps.{sendsBlock}
-use Rattle.yapp_sending.proofs.Deciding.{block-ends}
+use Rattle.yapp_sending.proofs.Blocks.{block-ends}
 use borrow.Author.Needs.{needs}
 use Rattle.yapp_sending.proofs.sends_block.Statement.{statement}
 use Rattle.yapp_sending.proofs.sends_block.Tie as tie
