@@ -1,5 +1,4 @@
 -- `put` writes the one packet that is sent. Assumes nothing.
-use mathlib.Core.Path.{ap, refl, _∙_}
 use borrow.Author.Needs.{needs}
 use Rattle.yapp_replies.proofs.put.Statement.{statement}
 use Rattle.yapp_replies.proofs.put.Tie as tie
