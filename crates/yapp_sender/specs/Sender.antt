@@ -1,7 +1,7 @@
 -- The sender: its beginning, and what each call answers and leaves. (Document 01, "Steps of YAPP", "Numbers that refuse or end".)
 use Prim.Native.Nat.{ℕ}
 use mathlib.Core.Bool.{Bool, false}
-use mathlib.Core.List.{List}
+use mathlib.Core.List.{List, []}
 use lib.ListN.{length, replicate}
 use Rattle.fields.specs.Buffer.{over, appended}
 use Rattle.fields.specs.declared.Place.{Place}
