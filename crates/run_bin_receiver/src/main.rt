@@ -12,145 +12,21 @@
 use bin::ReceiverState;
 use bin_receiver::Receiver;
 use bin_receiver::ReceiverAnswer;
-use calls::Outcome;
-use calls::RecordAnswer;
 use calls::Status;
-use fields::Written;
 use libc::STDIN_FILENO;
-use libc::STDOUT_FILENO;
 use numbers::Number;
+use printing::put;
+use printing::put_answer;
+use printing::put_change;
+use printing::put_number;
+use printing::put_outcome;
+use printing::put_status;
+use printing::put_stored;
+use printing::put_text;
 ghost use Prim.Native.Nat.{_≤_, _<_};
 ghost use lib.ListN.{length};
 
-struct Play {
-    receiver: Receiver,
-    area: [u8; 32],
-}
-
 // ---- Printing
-
-fn put(s: &[u8]) {
-    io::write_all(STDOUT_FILENO, s);
-}
-
-fn put_number(label: &[u8], n: usize) {
-    put(label);
-    io::print_decimal(STDOUT_FILENO, n as u64);
-}
-
-// A printable byte as it is, any other in hex.
-fn put_byte(c: u8) {
-    if 32 <= c {
-        if c <= 126 {
-            let one = [c];
-            put(&one);
-            return;
-        }
-    }
-    let mut digits = [0u8; 2];
-    numerals::fill_hex(&mut digits, c as u32);
-    put(b"<");
-    put(&digits);
-    put(b">");
-}
-
-fn put_bytes(s: &[u8]) {
-    let mut i = 0;
-    while i < s.len() {
-        put_byte(s[i]);
-        i += 1;
-    }
-}
-
-// Nothing where s is empty.
-fn put_text(label: &[u8], s: &[u8]) {
-    if 0 < s.len() {
-        put(label);
-        put_bytes(s);
-    }
-}
-
-// Where the first byte stands that differs; the length where none does.
-fn differs_from(a: &[u8], b: &[u8]) -> usize {
-    let mut i = 0;
-    while i < a.len() {
-        if fields::byte_at(a, i) == fields::byte_at(b, i) {
-            i += 1;
-        } else {
-            return i;
-        }
-    }
-    i
-}
-
-// The index behind the last byte that differs; 0 where none does.
-fn differs_to(a: &[u8], b: &[u8]) -> usize {
-    let mut to = 0;
-    let mut i = 0;
-    while i < a.len() {
-        if fields::byte_at(a, i) != fields::byte_at(b, i) {
-            to = i + 1;
-        }
-        i += 1;
-    }
-    to
-}
-
-// Where after is not before.
-fn put_change(label: &[u8], before: &[u8], after: &[u8]) {
-    put(label);
-    if fields::same(before, after) {
-        put(b" untouched");
-        return;
-    }
-    put_number(b" ", differs_from(before, after));
-    put_number(b"..", differs_to(before, after));
-}
-
-// The same, and the bytes that stand there now.
-fn put_stored(before: &[u8], after: &[u8]) {
-    put_change(b"; area", before, after);
-    let from = differs_from(before, after);
-    let all = fields::part(after, 0, differs_to(before, after));
-    put_text(b" ", fields::part(all, from, after.len()));
-}
-
-// Document 01's number.
-fn number_of(outcome: Outcome) -> usize {
-    match outcome {
-        Outcome::Success => 0,
-        Outcome::RecordUnreadable => 1,
-        Outcome::RecordOver => 2,
-        Outcome::NameOutside => 3,
-        Outcome::LengthOutside => 4,
-        Outcome::BlockOutside => 5,
-        Outcome::Unexpected => 6,
-        Outcome::Malformed => 7,
-        Outcome::NoRoom => 8,
-        Outcome::HaveFile => 9,
-        Outcome::Differs => 10,
-        Outcome::CheckFailed => 11,
-        Outcome::PastSize => 12,
-        Outcome::Short => 13,
-        Outcome::Refused => 14,
-        Outcome::Cancelled => 15,
-        Outcome::NotOurs => 16,
-        Outcome::TimedOut => 17,
-        Outcome::SecondFile => 21,
-        Outcome::Stopped => 23,
-    }
-}
-
-// The number of a refused call; 0 where it was taken.
-fn refusal_of(status: Status) -> usize {
-    match status {
-        Status::Taken => 0,
-        Status::Over => 18,
-        Status::LongFrame => 19,
-        Status::SmallReply => 20,
-        Status::WrongLength => 40,
-    }
-}
 
 fn put_basic(size: u32, kept: u32) {
     put_number(b" Basic ", size as usize);
@@ -162,15 +38,13 @@ fn put_state(state: ReceiverState) {
         ReceiverState::Waiting => put(b" Waiting"),
         ReceiverState::Basic { size, kept } => put_basic(size, kept),
         ReceiverState::Extended { crc } => put_number(b" Extended ", crc as usize),
-        ReceiverState::Ended { outcome } => put_number(b" ended ", number_of(outcome)),
+        ReceiverState::Ended { outcome } => put_outcome(b" ended ", outcome),
     }
 }
 
-fn put_status(status: Status) {
-    let n = refusal_of(status);
-    if 0 < n {
-        put_number(b" refused ", n);
-    }
+fn put_reply(reply: &[u8]) {
+    let before = [0xEE; 259];
+    put_change(b"; reply", fields::part(&before, 0, reply.len()), reply);
 }
 
 // ---- Reading the script
@@ -187,6 +61,12 @@ fn word(line: &[u8], number: usize) -> &[u8] {
     fields::part(rest, 0, fields::find(rest, 32))
 }
 
+// Whether the word with this number is this byte.
+fn has(line: &[u8], number: usize, byte: u8) -> bool {
+    let one = [byte];
+    fields::same(word(line, number), &one)
+}
+
 fn value(s: &[u8]) -> usize
     ensures { λ r. ⌜ r ≤ 4294967295 ⌝ }
 {
@@ -196,8 +76,9 @@ fn value(s: &[u8]) -> usize
     }
 }
 
-// Up to nine digits.
-fn number(s: &[u8]) -> usize {
+// The word with this number as a number of up to nine digits.
+fn number(line: &[u8], at: usize) -> usize {
+    let s = word(line, at);
     if s.len() == 9 {
         return value(fields::part(s, 0, 1)) * 100_000_000 + value(fields::part(s, 1, 8));
     }
@@ -257,70 +138,72 @@ fn decode(s: &[u8], out: &mut [u8]) -> usize {
     n
 }
 
-// Which call the word names: 1 to 4; 0 where it names none.
-fn call_of(s: &[u8]) -> u8 {
-    if fields::same(s, b"leave") {
-        return 1;
+// The number of the first word among these words, of which there are seven; 7 where it is none of them.
+fn place_in(words: &[u8], line: &[u8]) -> usize {
+    let first = word(line, 0);
+    let mut i: usize = 0;
+    while i < 7 {
+        if fields::same(word(words, i), first) {
+            return i;
+        }
+        i += 1;
     }
-    if fields::same(s, b"frame") {
-        return 2;
-    }
-    if fields::same(s, b"timer") {
-        return 3;
-    }
-    if fields::same(s, b"stop") {
-        return 4;
-    }
-    0
+    i
+}
+
+// What a line says to do: a call, 0 to 3; a beginning, 4 and 5; to show the record, 6; nothing, 7.
+fn call_of(line: &[u8]) -> usize {
+    place_in(b"leave frame timer stop fresh resume record", line)
+}
+
+// Whether the reply buffer is to have 258 bytes.
+fn is_small(line: &[u8]) -> bool {
+    fields::same(word(line, 0), b"258")
 }
 
 // ---- The receiver
 
-fn resume_from(bytes: &[u8], line: &[u8]) -> Receiver {
-    Receiver::resume(
-        bytes,
-        number(word(line, 2)),
-        fields::same(word(line, 3), b"?"),
-    )
+fn put_begun(m: Receiver) {
+    put(b" ->");
+    put_state(m.state());
 }
 
-fn begin_resume(line: &[u8]) -> Receiver {
+fn resume_from(record: &[u8], line: &[u8]) -> Receiver {
+    Receiver::resume(record, number(line, 2), has(line, 3, b'?'))
+}
+
+fn resume(line: &[u8]) -> Receiver {
     let mut room = [0u8; 100];
     let n = decode(word(line, 1), &mut room);
     resume_from(fields::part(&room, 0, n), line)
 }
 
-fn begin_fresh(line: &[u8]) -> Receiver {
-    Receiver::fresh(number(word(line, 1)), fields::same(word(line, 2), b"?"))
+fn fresh(line: &[u8]) -> Receiver {
+    Receiver::fresh(number(line, 1), has(line, 2, b'?'))
 }
 
-fn begun(receiver: Receiver, area: [u8; 32]) -> Play {
-    put(b" ->");
-    put_state(receiver.state());
-    Play { receiver, area }
+fn fill(area: &mut [u8]) {
+    let filled = [0xEE; 32];
+    fields::append_bytes(area, 0, &filled);
 }
 
-// A line that is no call.
-fn begin(p: Play, first: &[u8], line: &[u8]) -> Play {
-    let area = p.area;
-    if fields::same(first, b"fresh") {
-        return begun(begin_fresh(line), [0xEE; 32]);
+fn begin(call: usize, line: &[u8], area: &mut [u8]) -> Receiver {
+    if call == 5 {
+        return resume(line);
     }
-    if fields::same(first, b"resume") {
-        return begun(begin_resume(line), area);
-    }
-    p
+    fill(area);
+    fresh(line)
 }
 
-fn fail(m: Receiver, call: u8, area: &[u8], reply: &mut [u8]) -> ReceiverAnswer {
-    if call == 3 {
+fn fail(m: Receiver, call: usize, area: &[u8], reply: &mut [u8]) -> ReceiverAnswer {
+    if call == 2 {
         return m.timeout(area, reply);
     }
     m.cancel(area, reply)
 }
 
-fn leave(m: Receiver, call: u8, area: &[u8], reply: &mut [u8]) -> ReceiverAnswer {
-    if call == 1 {
+fn leave(m: Receiver, call: usize, area: &[u8], reply: &mut [u8]) -> ReceiverAnswer {
+    if call == 0 {
         return m.transmit(area, reply);
     }
     fail(m, call, area, reply)
@@ -328,12 +211,12 @@ fn leave(m: Receiver, call: u8, area: &[u8], reply: &mut [u8]) -> ReceiverAnswer
 
 fn call_receiver(
     m: Receiver,
-    call: u8,
+    call: usize,
     frame: &[u8],
     area: &mut [u8],
     reply: &mut [u8],
 ) -> ReceiverAnswer {
-    if call == 2 {
+    if call == 1 {
         return m.receive(frame, area, reply);
     }
     leave(m, call, area, reply)
@@ -345,97 +228,85 @@ fn put_end(status: Status, m: Receiver) {
     put_state(m.state());
 }
 
-fn show(got: ReceiverAnswer, frame: &[u8], before: &[u8], reply: &[u8]) {
-    let m = got.receiver;
-    let status = got.status;
-    let shown = got.shown;
-    put_end(status, m);
-    put_text(b"; sent ", fields::part(reply, 0, got.sent));
-    put_number(b"; stored ", got.stored);
-    put_text(b"; shown ", fields::bytes_at(frame, shown));
-    put_change(b"; reply", before, reply);
+fn put_counts(sent: &[u8], stored: usize, shown: &[u8]) {
+    put_text(b"; sent ", sent);
+    put_number(b"; stored ", stored);
+    put_text(b"; shown ", shown);
 }
 
-fn hand(p: Play, which: u8, frame: &[u8], before: &[u8], reply: &mut [u8]) -> Play {
-    let m = p.receiver;
-    let old = p.area;
-    let mut area = p.area;
-    let got = call_receiver(m, which, frame, &mut area, reply);
-    show(got, frame, before, reply);
-    put_stored(&old, &area);
-    let receiver = got.receiver;
-    Play { receiver, area }
+fn show(got: ReceiverAnswer, frame: &[u8], reply: &[u8]) {
+    let status = got.status;
+    put_end(status, got.receiver);
+    put_counts(
+        fields::part(reply, 0, got.sent),
+        got.stored,
+        fields::bytes_at(frame, got.shown),
+    );
+    put_reply(reply);
 }
 
 // A call with the bytes that a word says.
-fn call(p: Play, which: u8, text: &[u8], before: &[u8], reply: &mut [u8]) -> Play {
+fn heard(m: Receiver, call: usize, text: &[u8], area: &mut [u8], reply: &mut [u8]) -> Receiver {
     let mut room = [0u8; 300];
     let n = decode(text, &mut room);
-    hand(p, which, fields::part(&room, 0, n), before, reply)
+    let frame = fields::part(&room, 0, n);
+    let got = call_receiver(m, call, frame, area, reply);
+    show(got, frame, reply);
+    got.receiver
 }
 
-fn turn(p: Play, line: &[u8], before: &[u8], reply: &mut [u8]) -> Play {
-    let first = word(line, 0);
-    let which = call_of(first);
-    if which == 0 {
-        return begin(p, first, line);
-    }
-    call(p, which, word(line, 1), before, reply)
-}
-
-// A line with a reply buffer of 259 bytes, and with one of 258.
-fn turn_259(p: Play, line: &[u8]) -> Play {
-    let before = [0xEE; 259];
-    let mut reply = [0xEE; 259];
-    turn(p, line, &before, &mut reply)
-}
-
-fn turn_258(p: Play, line: &[u8]) -> Play {
-    let before = [0xEE; 258];
-    let mut reply = [0xEE; 258];
-    turn(p, line, &before, &mut reply)
-}
-
-fn put_written(written: Written, buf: &[u8]) {
-    match written {
-        Written::Bytes(n) => put_text(b" -> ", fields::part(buf, 0, n)),
-        Written::Small => put(b" -> 20"),
-        Written::Formless => put(b" -> 22"),
-    }
-}
-
-fn put_answer(got: RecordAnswer, buf: &[u8]) {
-    match got {
-        RecordAnswer::NoRecord => put(b" -> none"),
-        RecordAnswer::Record(written) => put_written(written, buf),
-    }
+fn hand(m: Receiver, call: usize, text: &[u8], area: &mut [u8], reply: &mut [u8]) -> Receiver {
+    let mut old = [0u8; 32];
+    fields::append_bytes(&mut old, 0, area);
+    let next = heard(m, call, text, area, reply);
+    put_stored(b"; area", &old, area);
+    next
 }
 
 fn put_record(m: Receiver) {
+    let mut space = [0xEE; 81];
+    let buf: &mut [u8] = &mut space;
+    put_answer(m.record(buf), buf);
+    put_buffer(buf);
+}
+
+fn put_buffer(buf: &[u8]) {
     let before = [0xEE; 81];
-    let mut buf = [0xEE; 81];
-    let got = m.record(&mut buf);
-    put_answer(got, &buf);
-    put_change(b"; buffer", &before, &buf);
+    put_change(b"; buffer", &before, buf);
 }
 
-fn act(p: Play, line: &[u8]) -> Play {
-    put(line);
-    if fields::same(word(line, 0), b"258") {
-        return turn_258(p, fields::part(line, 4, line.len()));
+fn act(m: Receiver, line: &[u8], area: &mut [u8], reply: &mut [u8]) -> Receiver {
+    let call = call_of(line);
+    if call < 4 {
+        return hand(m, call, word(line, 1), area, reply);
     }
-    if fields::same(line, b"record") {
-        put_record(p.receiver);
-        return p;
+    if call < 6 {
+        let begun = begin(call, line, area);
+        put_begun(begun);
+        return begun;
     }
-    turn_259(p, line)
+    if call == 6 {
+        put_record(m);
+    }
+    m
 }
 
-fn start() -> Play {
-    Play {
-        receiver: Receiver::fresh(32, false),
-        area: [0xEE; 32],
+// A line with a reply buffer of 259 bytes, and with one of 258.
+fn turn_259(m: Receiver, line: &[u8], area: &mut [u8]) -> Receiver {
+    let mut reply = [0xEE; 259];
+    act(m, line, area, &mut reply)
+}
+
+fn turn_258(m: Receiver, line: &[u8], area: &mut [u8]) -> Receiver {
+    let mut reply = [0xEE; 258];
+    act(m, line, area, &mut reply)
+}
+
+fn turn(m: Receiver, line: &[u8], area: &mut [u8]) -> Receiver {
+    if is_small(line) {
+        return turn_258(m, fields::part(line, 4, line.len()), area);
     }
+    turn_259(m, line, area)
 }
 
 // Where the line behind starts, at most at the script's end.
@@ -450,12 +321,15 @@ fn behind(at: usize, line: usize, len: usize) -> usize
 }
 
 fn run(script: &[u8]) {
-    let mut p = start();
+    let mut space = [0xEE; 32];
+    let area: &mut [u8] = &mut space;
+    let mut m = Receiver::fresh(32, false);
     let mut at = 0;
     while at < script.len() {
         let rest = fields::part(script, at, script.len());
         let line = fields::part(rest, 0, fields::find(rest, 10));
-        p = act(p, line);
+        put(line);
+        m = turn(m, line, area);
         put(b"\n");
         at = behind(at, line.len(), script.len());
     }

@@ -1,7 +1,18 @@
 // The link between two ends: it carries so many bytes, and then it breaks.
+use crate::text;
+
 pub struct Link {
     pub left: usize,
     pub broken: bool,
+}
+
+// The date and time of last change that the header and the line carry.
+pub const STAMP: u32 = 0x5B6E_A3C0;
+
+// What a session leaves: how many bytes its record has, and whether the receiver ended with the file whole.
+pub struct Saved {
+    pub count: usize,
+    pub whole: bool,
 }
 
 // The link after n bytes were sent over it.
@@ -16,4 +27,41 @@ pub fn after(link: Link, n: usize) -> Link {
         left: 0,
         broken: true,
     }
+}
+
+// Whether nothing goes over the link: there is nothing to send, or the link is broken.
+pub fn is_idle(link: Link, sent: usize) -> bool {
+    if sent == 0 {
+        return true;
+    }
+    link.broken
+}
+
+// Whether a session is over: the link is broken, or both ends have ended.
+pub fn is_over(link: Link, sender_at: usize, receiver_at: usize) -> bool {
+    if link.broken {
+        return true;
+    }
+    if text::is_end(receiver_at) {
+        return text::is_end(sender_at);
+    }
+    false
+}
+
+// What passes of a packet, which is shown: as many bytes as the link still carries.
+pub fn packet(link: Link, arrow: u8, checked: bool, bytes: &[u8]) -> &[u8] {
+    let passed = fields::part(bytes, 0, link.left);
+    text::packet(arrow, bytes, checked, passed.len());
+    passed
+}
+
+// What passes of a frame, which is shown: all of it, or none.
+pub fn frame(link: Link, arrow: u8, is_data: bool, bytes: &[u8]) -> &[u8] {
+    let n = if bytes.len() <= link.left {
+        bytes.len()
+    } else {
+        0
+    };
+    text::frame(arrow, bytes, is_data, n);
+    fields::part(bytes, 0, n)
 }

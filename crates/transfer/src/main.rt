@@ -2,10 +2,11 @@
 // seed picks, and the transfer is resumed from the receiver's record by either protocol until the file is whole.
 //
 //     transfer [PATH [SEED]]
-use calls::RecordAnswer;
-use fields::Stamp;
-use text::print;
-use text::print_number;
+use link::Saved;
+use printing::put;
+use printing::put_number;
+use printing::put_word;
+use records::RecordRead;
 ghost use mathlib.Core.Path.{_≡_};
 ghost use lib.ListN.{length};
 
@@ -20,20 +21,11 @@ const LARGEST: usize = 1_048_576;
 // How often the link breaks at the most, in each transfer.
 const BREAKS: u32 = 3;
 
-// The date and time of last change that the header and the line carry.
-const STAMP: u32 = 0x5B6E_A3C0;
-
 // By which protocol a session goes.
 enum Way {
     Yapp,
     YappC,
     Bin,
-}
-
-// What a session leaves: how many bytes its record has, and whether the receiver ended with the file whole.
-struct After {
-    count: usize,
-    whole: bool,
 }
 
 // One byte more than the largest file, so that a larger one shows.
@@ -76,93 +68,40 @@ fn pick_way(own: Way, seed: u64) -> Way {
     }
 }
 
-fn print_way(way: Way) {
+fn place_of(way: Way) -> usize {
     match way {
-        Way::Yapp => print(b"YAPP"),
-        Way::YappC => print(b"YappC"),
-        Way::Bin => print(b"#BIN#"),
+        Way::Yapp => 0,
+        Way::YappC => 1,
+        Way::Bin => 2,
     }
+}
+
+fn print_way(label: &[u8], way: Way) {
+    put(label);
+    put_word(b"YAPP|YappC|#BIN#|", place_of(way));
 }
 
 // ---- Sessions
 
-// How many bytes the record's answer has.
-fn count_of(answer: RecordAnswer) -> usize {
-    match answer {
-        RecordAnswer::NoRecord => 0,
-        RecordAnswer::Record(written) => calls::count(written),
+fn print_good(len: usize, kept: u32, size: u32) {
+    put_number(b"  record of ", len);
+    put_number(b" bytes: kept ", kept as usize);
+    put_number(b" of ", size as usize);
+    put(b"\n");
+}
+
+fn print_read(len: usize, read: RecordRead) {
+    match read {
+        RecordRead::Good(r) => print_good(len, r.kept, r.size),
+        RecordRead::Unreadable => put(b"  record unreadable\n"),
     }
 }
 
 fn print_record(bytes: &[u8]) {
     if bytes.len() == 0 {
-        return print(b"  no record\n");
+        return put(b"  no record\n");
     }
-    match record_reader::record_of(bytes) {
-        records::RecordRead::Good(r) => {
-            print_number(b"  record of ", bytes.len());
-            print_number(b" bytes: kept ", r.kept as usize);
-            print_number(b" of ", r.size as usize);
-            print(b"\n");
-        }
-        records::RecordRead::Unreadable => print(b"  record unreadable\n"),
-    }
-}
-
-fn yapp_receiver_of(kept: &[u8], room: usize, checks: bool) -> yapp_receiver::Receiver {
-    if kept.len() == 0 {
-        return yapp_receiver::Receiver::fresh(room, true, checks);
-    }
-    yapp_receiver::Receiver::resume(kept, room, true, checks)
-}
-
-fn bin_receiver_of(kept: &[u8], room: usize) -> bin_receiver::Receiver {
-    if kept.len() == 0 {
-        return bin_receiver::Receiver::fresh(room, true);
-    }
-    bin_receiver::Receiver::resume(kept, room, true)
-}
-
-fn stamp_of(checks: bool) -> Stamp {
-    if checks {
-        return Stamp::Present(STAMP);
-    }
-    Stamp::Absent
-}
-
-// A session by YAPP; the record's bytes after it stand in bytes.
-fn by_yapp(
-    bytes: &mut [u8],
-    count: usize,
-    checks: bool,
-    name: &[u8],
-    left: usize,
-    file: &[u8],
-    area: &mut [u8],
-) -> After {
-    let receiver = yapp_receiver_of(fields::part(bytes, 0, count), area.len(), checks);
-    let after = yapp_link::session(receiver, name, stamp_of(checks), left, file, area);
-    After {
-        count: count_of(after.record(bytes)),
-        whole: text::is_whole(after.state()),
-    }
-}
-
-// A session by #BIN#, likewise.
-fn by_bin(
-    bytes: &mut [u8],
-    count: usize,
-    name: &[u8],
-    left: usize,
-    file: &[u8],
-    area: &mut [u8],
-) -> After {
-    let receiver = bin_receiver_of(fields::part(bytes, 0, count), area.len());
-    let after = bin_link::session(receiver, name, STAMP, left, file, area);
-    After {
-        count: count_of(after.record(bytes)),
-        whole: text::is_bin_whole(after.state()),
-    }
+    print_read(bytes.len(), record_reader::record_of(bytes));
 }
 
 fn by(
@@ -173,23 +112,22 @@ fn by(
     left: usize,
     file: &[u8],
     area: &mut [u8],
-) -> After {
-    match way {
-        Way::Yapp => by_yapp(bytes, count, false, name, left, file, area),
-        Way::YappC => by_yapp(bytes, count, true, name, left, file, area),
-        Way::Bin => by_bin(bytes, count, name, left, file, area),
+) -> Saved {
+    let place = place_of(way);
+    if place == 2 {
+        return bin_link::session(bytes, count, name, left, file, area);
     }
+    yapp_link::session(bytes, count, place == 1, name, left, file, area)
 }
 
-fn print_session(number: u32, way: Way, left: usize, is_cut: bool) {
-    print_number(b"\nsession ", number as usize);
-    print(b" by ");
-    print_way(way);
-    if is_cut {
-        print_number(b", the link breaks after ", left);
-        print(b" bytes");
+fn print_session(number: u32, way: Way, left: usize) {
+    put_number(b"\nsession ", number as usize);
+    print_way(b" by ", way);
+    if number <= BREAKS {
+        put_number(b", the link breaks after ", left);
+        return put(b" bytes\n");
     }
-    print(b"\n");
+    put(b"\n");
 }
 
 // How many bytes the link carries in a session: as the seed picks, or any number once it has broken often enough.
@@ -207,6 +145,23 @@ fn way_of(number: u32, own: Way, seed: u64) -> Way {
     pick_way(own, seed)
 }
 
+// The session with this number: two numbers of the seed's sequence pick its protocol and where the link breaks.
+fn session(
+    number: u32,
+    own: Way,
+    seed: u64,
+    bytes: &mut [u8],
+    count: usize,
+    name: &[u8],
+    file: &[u8],
+    area: &mut [u8],
+) -> Saved {
+    let way = way_of(number, own, seed);
+    let left = left_of(number, next(seed), file.len());
+    print_session(number, way, left);
+    by(way, bytes, count, name, left, file, area)
+}
+
 // Sessions until the file is whole.
 fn sessions(own: Way, seed: u64, name: &[u8], file: &[u8], area: &mut [u8]) {
     let mut space = [0; 81];
@@ -215,12 +170,8 @@ fn sessions(own: Way, seed: u64, name: &[u8], file: &[u8], area: &mut [u8]) {
     let mut count = 0;
     let mut number = 1;
     while number <= BREAKS + 1 {
-        let way = way_of(number, own, state);
-        state = next(state);
-        let left = left_of(number, state, file.len());
-        state = next(state);
-        print_session(number, way, left, number <= BREAKS);
-        let after = by(way, bytes, count, name, left, file, area);
+        let after = session(number, own, state, bytes, count, name, file, area);
+        state = next(next(state));
         count = after.count;
         print_record(fields::part(bytes, 0, count));
         if after.whole {
@@ -230,20 +181,27 @@ fn sessions(own: Way, seed: u64, name: &[u8], file: &[u8], area: &mut [u8]) {
     }
 }
 
+fn print_title(own: Way, name: &[u8], size: usize) {
+    put(b"\n");
+    put(name);
+    put_number(b", ", size);
+    print_way(b" bytes, by ", own);
+    put(b"\n");
+}
+
+fn print_compared(area: &[u8], file: &[u8]) {
+    if fields::same(fields::part(area, 0, file.len()), file) {
+        return put(b"the area equals the file\n");
+    }
+    put(b"THE AREA DIFFERS FROM THE FILE\n");
+}
+
 fn transfer(own: Way, seed: u64, name: &[u8], file: &[u8]) {
     let mut space = area_space();
     let area: &mut [u8] = &mut space;
-    print(b"\n");
-    print(name);
-    print_number(b", ", file.len());
-    print(b" bytes, by ");
-    print_way(own);
-    print(b"\n");
+    print_title(own, name, file.len());
     sessions(own, seed, name, file, area);
-    if fields::same(fields::part(area, 0, file.len()), file) {
-        return print(b"the area equals the file\n");
-    }
-    print(b"THE AREA DIFFERS FROM THE FILE\n");
+    print_compared(area, file);
 }
 
 // ---- The arguments
@@ -270,16 +228,19 @@ fn say(what: &[u8], path: &[u8]) {
     io::write_all(libc::STDERR_FILENO, what);
 }
 
-fn all_ways(path: &[u8], seed: u64, file: &[u8]) {
+fn all_ways(name: &[u8], seed: u64, file: &[u8]) {
+    transfer(Way::Yapp, seed, name, file);
+    transfer(Way::YappC, seed, name, file);
+    transfer(Way::Bin, seed, name, file);
+}
+
+fn try_all(path: &[u8], seed: u64, file: &[u8]) {
     let name = name_of(path);
     if LARGEST < file.len() {
         return say(b": over 1048576 bytes\n", path);
     }
     if fields::is_name(name) {
-        transfer(Way::Yapp, seed, name, file);
-        transfer(Way::YappC, seed, name, file);
-        transfer(Way::Bin, seed, name, file);
-        return;
+        return all_ways(name, seed, file);
     }
     say(b": not a name that a header can carry\n", path)
 }
@@ -293,7 +254,7 @@ fn run(path: &[u8], seed: u64) {
     }
     let n = io::read_full(fd, buf);
     libc::close(fd);
-    all_ways(path, seed, fields::part(buf, 0, n));
+    try_all(path, seed, fields::part(buf, 0, n));
 }
 
 // The sample, from the root of the repository.

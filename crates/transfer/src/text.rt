@@ -1,223 +1,220 @@
-// The lines of the transcript.
+// The lines of the transcript. States, packets and frames are numbers here: the places of their words.
 use bin::ReceiverState as BinReceiverState;
 use bin::SenderState as BinSenderState;
 use calls::Outcome;
-use libc::STDOUT_FILENO;
 use lines::Frame;
-use packets::Packet;
+use printing::put;
+use printing::put_number;
+use printing::put_word;
 use yapp::ReceiverState;
 use yapp::SenderState;
+ghost use Prim.Native.Nat.{_≤_};
 
-pub fn print(text: &[u8]) {
-    io::write_all(STDOUT_FILENO, text);
-}
+// An end that ended with success, as the four functions below number it.
+pub const SUCCESS: usize = 192;
 
-pub fn print_number(label: &[u8], n: usize) {
-    print(label);
-    io::print_decimal(STDOUT_FILENO, n as u64);
-}
+// A #BIN# sender in the midst of the file.
+pub const SENDING: usize = 384;
 
-// Document 01's number of an outcome, and its words.
-fn print_outcome(outcome: Outcome) {
+// Document 01's number of an outcome.
+fn outcome_number(outcome: Outcome) -> usize
+    ensures { λ r. ⌜ r ≤ 23 ⌝ }
+{
     match outcome {
-        Outcome::Success => print(b"0 success"),
-        Outcome::RecordUnreadable => print(b"1 record unreadable"),
-        Outcome::RecordOver => print(b"2 record over its limits"),
-        Outcome::NameOutside => print(b"3 name outside the limits"),
-        Outcome::LengthOutside => print(b"4 file length outside the limits"),
-        Outcome::BlockOutside => print(b"5 block outside the limits"),
-        Outcome::Unexpected => print(b"6 packet unexpected or unreadable"),
-        Outcome::Malformed => print(b"7 header, line or OK malformed"),
-        Outcome::NoRoom => print(b"8 file larger than the area"),
-        Outcome::HaveFile => print(b"9 record without resume"),
-        Outcome::Differs => print(b"10 record of another file"),
-        Outcome::CheckFailed => print(b"11 checksum or CRC disagrees"),
-        Outcome::PastSize => print(b"12 data past the announced size"),
-        Outcome::Short => print(b"13 end before the announced size"),
-        Outcome::Refused => print(b"14 refused by the far end"),
-        Outcome::Cancelled => print(b"15 cancelled by the far end"),
-        Outcome::NotOurs => print(b"16 resume not ours"),
-        Outcome::TimedOut => print(b"17 timer ran out"),
-        Outcome::SecondFile => print(b"21 second file"),
-        Outcome::Stopped => print(b"23 stopped by the operator"),
+        Outcome::Success => 0,
+        Outcome::RecordUnreadable => 1,
+        Outcome::RecordOver => 2,
+        Outcome::NameOutside => 3,
+        Outcome::LengthOutside => 4,
+        Outcome::BlockOutside => 5,
+        Outcome::Unexpected => 6,
+        Outcome::Malformed => 7,
+        Outcome::NoRoom => 8,
+        Outcome::HaveFile => 9,
+        Outcome::Differs => 10,
+        Outcome::CheckFailed => 11,
+        Outcome::PastSize => 12,
+        Outcome::Short => 13,
+        Outcome::Refused => 14,
+        Outcome::Cancelled => 15,
+        Outcome::NotOurs => 16,
+        Outcome::TimedOut => 17,
+        Outcome::SecondFile => 21,
+        Outcome::Stopped => 23,
     }
 }
 
-fn print_end(label: &[u8], outcome: Outcome) {
-    print(label);
-    print_outcome(outcome);
+// An outcome's number and its words; 18, 19, 20 and 22 are no outcomes.
+fn print_outcome(number: usize) {
+    put_word(
+        b"0 success|\
+          1 record unreadable|\
+          2 record over its limits|\
+          3 name outside the limits|\
+          4 file length outside the limits|\
+          5 block outside the limits|\
+          6 packet unexpected or unreadable|\
+          7 header, line or OK malformed|\
+          8 file larger than the area|\
+          9 record without resume|\
+          10 record of another file|\
+          11 checksum or CRC disagrees|\
+          12 data past the announced size|\
+          13 end before the announced size|\
+          14 refused by the far end|\
+          15 cancelled by the far end|\
+          16 resume not ours|\
+          17 timer ran out|\
+          |||21 second file|\
+          |23 stopped by the operator|",
+        number,
+    );
 }
 
-pub fn print_sender(state: SenderState) {
-    match state {
-        SenderState::S { .. } => print(b"S"),
-        SenderState::SH => print(b"SH"),
-        SenderState::SD { .. } => print(b"SD"),
-        SenderState::SE => print(b"SE"),
-        SenderState::ST => print(b"ST"),
-        SenderState::CW { outcome } => print_end(b"CW, ", outcome),
-        SenderState::Ended { outcome } => print_end(b"ended, ", outcome),
+// A state's number is the place of its word times 32, and the outcome's number where it has one.
+fn print_state(number: usize) {
+    let place = number / 32;
+    put_word(
+        b"S|SH|SD|SE|ST|CW, |ended, |R|RH|RD|start|wait|send|waiting|basic|extended|",
+        place,
+    );
+    if place == 5 {
+        return print_outcome(number % 32);
+    }
+    if place == 6 {
+        print_outcome(number % 32);
     }
 }
 
-pub fn print_receiver(state: ReceiverState) {
-    match state {
-        ReceiverState::R => print(b"R"),
-        ReceiverState::RH { whole: _ } => print(b"RH"),
-        ReceiverState::RD => print(b"RD"),
-        ReceiverState::CW { outcome } => print_end(b"CW, ", outcome),
-        ReceiverState::Ended { outcome } => print_end(b"ended, ", outcome),
-    }
-}
-
-pub fn print_bin_sender(state: BinSenderState) {
-    match state {
-        BinSenderState::Start => print(b"start"),
-        BinSenderState::Wait => print(b"wait"),
-        BinSenderState::Send { at: _ } => print(b"send"),
-        BinSenderState::Ended { outcome } => print_end(b"ended, ", outcome),
-    }
-}
-
-pub fn print_bin_receiver(state: BinReceiverState) {
-    match state {
-        BinReceiverState::Waiting => print(b"waiting"),
-        BinReceiverState::Basic { .. } => print(b"basic"),
-        BinReceiverState::Extended { crc: _ } => print(b"extended"),
-        BinReceiverState::Ended { outcome } => print_end(b"ended, ", outcome),
-    }
-}
-
-// Which state it is, whatever the state holds.
-pub fn sender_number(state: SenderState) -> u8 {
+pub fn sender_number(state: SenderState) -> usize {
     match state {
         SenderState::S { .. } => 0,
-        SenderState::SH => 1,
-        SenderState::SD { .. } => 2,
-        SenderState::SE => 3,
-        SenderState::ST => 4,
-        SenderState::CW { outcome: _ } => 5,
-        SenderState::Ended { outcome: _ } => 6,
+        SenderState::SH => 32,
+        SenderState::SD { .. } => 64,
+        SenderState::SE => 96,
+        SenderState::ST => 128,
+        SenderState::CW { outcome } => 160 + outcome_number(outcome),
+        SenderState::Ended { outcome } => 192 + outcome_number(outcome),
     }
 }
 
-pub fn receiver_number(state: ReceiverState) -> u8 {
+pub fn receiver_number(state: ReceiverState) -> usize {
     match state {
-        ReceiverState::R => 0,
-        ReceiverState::RH { whole: _ } => 1,
-        ReceiverState::RD => 2,
-        ReceiverState::CW { outcome: _ } => 5,
-        ReceiverState::Ended { outcome: _ } => 6,
+        ReceiverState::R => 224,
+        ReceiverState::RH { whole: _ } => 256,
+        ReceiverState::RD => 288,
+        ReceiverState::CW { outcome } => 160 + outcome_number(outcome),
+        ReceiverState::Ended { outcome } => 192 + outcome_number(outcome),
     }
 }
 
-pub fn bin_sender_number(state: BinSenderState) -> u8 {
+pub fn bin_sender_number(state: BinSenderState) -> usize {
     match state {
-        BinSenderState::Start => 0,
-        BinSenderState::Wait => 1,
-        BinSenderState::Send { at: _ } => 2,
-        BinSenderState::Ended { outcome: _ } => 6,
+        BinSenderState::Start => 320,
+        BinSenderState::Wait => 352,
+        BinSenderState::Send { at: _ } => 384,
+        BinSenderState::Ended { outcome } => 192 + outcome_number(outcome),
     }
 }
 
-pub fn bin_receiver_number(state: BinReceiverState) -> u8 {
+pub fn bin_receiver_number(state: BinReceiverState) -> usize {
     match state {
-        BinReceiverState::Waiting => 0,
-        BinReceiverState::Basic { .. } => 1,
-        BinReceiverState::Extended { crc: _ } => 2,
-        BinReceiverState::Ended { outcome: _ } => 6,
+        BinReceiverState::Waiting => 416,
+        BinReceiverState::Basic { .. } => 448,
+        BinReceiverState::Extended { crc: _ } => 480,
+        BinReceiverState::Ended { outcome } => 192 + outcome_number(outcome),
     }
 }
 
-fn print_packet(packet: Packet) {
-    match packet {
-        Packet::RR => print(b"RR"),
-        Packet::RF => print(b"RF"),
-        Packet::AF => print(b"AF"),
-        Packet::AT => print(b"AT"),
-        Packet::CA => print(b"CA"),
-        Packet::RT => print(b"RT"),
-        Packet::SI => print(b"SI"),
-        Packet::RI(_) => print(b"RI"),
-        Packet::HD(_) => print(b"HD"),
-        Packet::DT(_) => print(b"DT"),
-        Packet::EF => print(b"EF"),
-        Packet::ET => print(b"ET"),
-        Packet::NR(_) => print(b"NR"),
-        Packet::RE(_) => print(b"RE"),
-        Packet::CN(_) => print(b"CN"),
-        Packet::TX(_) => print(b"TX"),
-        Packet::Malformed => print(b"malformed HD"),
-        Packet::Dropped(_) => print(b"unreadable"),
-        Packet::Open => print(b"unfinished"),
+// Whether a state is an end, whatever the outcome.
+pub fn is_end(number: usize) -> bool {
+    number / 32 == 6
+}
+
+// An end's step from one state to another, which is handed back.
+fn moved(who: &[u8], before: usize, after: usize) -> usize {
+    if before / 32 == after / 32 {
+        return after;
     }
+    put(who);
+    print_state(before);
+    put(b" to ");
+    print_state(after);
+    put(b"\n");
+    after
+}
+
+pub fn sender_moved(before: usize, after: usize) -> usize {
+    moved(b"    sender ", before, after)
+}
+
+pub fn receiver_moved(before: usize, after: usize) -> usize {
+    moved(b"    receiver ", before, after)
 }
 
 // Of how many bytes it is, and how many of them passed before the link broke.
 fn print_length(n: usize, passed: usize) {
-    print_number(b" ", n);
+    put_number(b" ", n);
     if n == passed {
-        return print(b" bytes\n");
+        return put(b" bytes\n");
     }
-    print_number(b" bytes, the link breaks after ", passed);
-    print(b"\n");
+    put_number(b" bytes, the link breaks after ", passed);
+    put(b"\n");
+}
+
+fn print_arrow(arrow: u8) {
+    let shown = [arrow, b' '];
+    put(&shown);
 }
 
 // A packet on its way.
-pub fn packet(arrow: &[u8], bytes: &[u8], checked: bool, passed: usize) {
-    print(arrow);
-    print_packet(packet_reader::packet_of(bytes, checked));
+pub fn packet(arrow: u8, bytes: &[u8], checked: bool, passed: usize) {
+    print_arrow(arrow);
+    put_word(
+        b"RR|RF|AF|AT|CA|RT|SI|RI|HD|DT|EF|ET|NR|RE|CN|TX|malformed HD|unreadable|unfinished|",
+        yapp::table::kind_of(packet_reader::packet_of(bytes, checked)),
+    );
     print_length(bytes.len(), passed);
 }
 
-fn print_frame(frame: Frame) {
+fn frame_number(frame: Frame) -> usize {
     match frame {
-        Frame::Basic(_) => print(b"line"),
-        Frame::Extended(_) => print(b"line"),
-        Frame::MalformedLine => print(b"malformed line"),
-        Frame::OK => print(b"OK"),
-        Frame::OKName(_) => print(b"OK with name"),
-        Frame::OKKept(_) => print(b"OK with kept count"),
-        Frame::MalformedOK => print(b"malformed OK"),
-        Frame::NO(_) => print(b"NO"),
-        Frame::Stop => print(b"stop"),
-        Frame::Display(_) => print(b"display"),
-        Frame::Other => print(b"other"),
+        Frame::Basic(_) => 0,
+        Frame::Extended(_) => 0,
+        Frame::MalformedLine => 1,
+        Frame::OK => 2,
+        Frame::OKName(_) => 3,
+        Frame::OKKept(_) => 4,
+        Frame::MalformedOK => 5,
+        Frame::NO(_) => 6,
+        Frame::Stop => 7,
+        Frame::Display(_) => 8,
+        Frame::Other => 9,
     }
 }
 
-// A frame on its way that is not of the file.
-pub fn frame(arrow: &[u8], bytes: &[u8], passed: usize) {
-    print(arrow);
-    print_frame(line_reader::frame_of(bytes));
+// The place of a frame's word: 10 where it is of the file.
+fn frame_place(bytes: &[u8], is_data: bool) -> usize {
+    if is_data {
+        return 10;
+    }
+    frame_number(line_reader::frame_of(bytes))
+}
+
+// A frame on its way.
+pub fn frame(arrow: u8, bytes: &[u8], is_data: bool, passed: usize) {
+    print_arrow(arrow);
+    put_word(
+        b"line|malformed line|OK|OK with name|OK with kept count|malformed OK|NO|stop|display|other|data|",
+        frame_place(bytes, is_data),
+    );
     print_length(bytes.len(), passed);
 }
 
-// A frame of the file.
-pub fn data(arrow: &[u8], bytes: &[u8], passed: usize) {
-    print(arrow);
-    print(b"data");
-    print_length(bytes.len(), passed);
-}
-
-fn is_success(outcome: Outcome) -> bool {
-    match outcome {
-        Outcome::Success => true,
-        _ => false,
-    }
-}
-
-// Whether a receiver ended with the file whole.
-pub fn is_whole(state: ReceiverState) -> bool {
-    match state {
-        ReceiverState::Ended { outcome } => is_success(outcome),
-        _ => false,
-    }
-}
-
-pub fn is_bin_whole(state: BinReceiverState) -> bool {
-    match state {
-        BinReceiverState::Ended { outcome } => is_success(outcome),
-        _ => false,
+// How many bytes a record's answer has.
+pub fn count_of(answer: calls::RecordAnswer) -> usize {
+    match answer {
+        calls::RecordAnswer::NoRecord => 0,
+        calls::RecordAnswer::Record(written) => calls::count(written),
     }
 }

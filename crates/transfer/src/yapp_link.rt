@@ -1,236 +1,195 @@
 // A YAPP sender and a YAPP receiver, and the link between them.
 use crate::link;
 use crate::link::Link;
+use crate::link::Saved;
 use crate::text;
 use fields::Stamp;
-use yapp::ReceiverState;
-use yapp::SenderState;
 use yapp_receiver::Receiver;
+use yapp_receiver::ReceiverAnswer;
 use yapp_sender::Sender;
+use yapp_sender::SenderAnswer;
 
 struct Ends {
     sender: Sender,
     receiver: Receiver,
+    // The numbers of their states.
+    sender_at: usize,
+    receiver_at: usize,
     link: Link,
-}
-
-// What an end did with a packet: how many bytes it answers with.
-struct Hop {
-    ends: Ends,
+    // What the end that was called last sends.
+    out: [u8; 259],
     sent: usize,
 }
 
-fn sender_moved(before: SenderState, after: SenderState) {
-    if text::sender_number(before) == text::sender_number(after) {
-        return;
-    }
-    text::print(b"    sender ");
-    text::print_sender(before);
-    text::print(b" to ");
-    text::print_sender(after);
-    text::print(b"\n");
+fn sender_number(sender: Sender) -> usize {
+    text::sender_number(sender.state())
 }
 
-fn receiver_moved(before: ReceiverState, after: ReceiverState) {
-    if text::receiver_number(before) == text::receiver_number(after) {
-        return;
-    }
-    text::print(b"    receiver ");
-    text::print_receiver(before);
-    text::print(b" to ");
-    text::print_receiver(after);
-    text::print(b"\n");
+fn receiver_number(receiver: Receiver) -> usize {
+    text::receiver_number(receiver.state())
 }
 
-fn with_sender(e: Ends, sender: Sender) -> Ends {
+// The sender answered, after n bytes were sent over the link.
+fn with_sender(e: Ends, a: SenderAnswer, out: [u8; 259], n: usize) -> Ends {
+    let sender = a.sender;
     let receiver = e.receiver;
-    let before = e.sender;
-    let link = e.link;
-    sender_moved(before.state(), sender.state());
     Ends {
         sender,
         receiver,
-        link,
-    }
-}
-
-fn with_receiver(e: Ends, receiver: Receiver) -> Ends {
-    let sender = e.sender;
-    let before = e.receiver;
-    let link = e.link;
-    receiver_moved(before.state(), receiver.state());
-    Ends {
-        sender,
-        receiver,
-        link,
-    }
-}
-
-// n bytes were sent over the link.
-fn carried(e: Ends, n: usize) -> Ends {
-    let sender = e.sender;
-    let receiver = e.receiver;
-    let used = e.link;
-    Ends {
-        sender,
-        receiver,
-        link: link::after(used, n),
-    }
-}
-
-// How many of n bytes pass.
-fn passed_of(link: Link, n: usize) -> usize {
-    if n <= link.left { n } else { link.left }
-}
-
-fn to_receiver(e: Ends, bytes: &[u8], area: &mut [u8], back: &mut [u8]) -> Hop {
-    let sender = e.sender;
-    let receiver = e.receiver;
-    let over = e.link;
-    let passed = passed_of(over, bytes.len());
-    text::packet(b"> ", bytes, sender.checked(), passed);
-    let a = receiver.receive(fields::part(bytes, 0, passed), area, back);
-    let next = a.receiver;
-    Hop {
-        ends: carried(with_receiver(e, next), bytes.len()),
+        sender_at: text::sender_moved(e.sender_at, sender_number(sender)),
+        receiver_at: e.receiver_at,
+        link: link::after(e.link, n),
+        out,
         sent: a.sent,
     }
 }
 
-fn to_sender(e: Ends, bytes: &[u8], file: &[u8], there: &mut [u8]) -> Hop {
+// The receiver answered, likewise.
+fn with_receiver(e: Ends, a: ReceiverAnswer, out: [u8; 259], n: usize) -> Ends {
     let sender = e.sender;
-    let over = e.link;
-    let passed = passed_of(over, bytes.len());
-    text::packet(b"< ", bytes, sender.checked(), passed);
-    let a = sender.receive(fields::part(bytes, 0, passed), file, there);
-    let next = a.sender;
-    Hop {
-        ends: carried(with_sender(e, next), bytes.len()),
+    let receiver = a.receiver;
+    Ends {
+        sender,
+        receiver,
+        sender_at: e.sender_at,
+        receiver_at: text::receiver_moved(e.receiver_at, receiver_number(receiver)),
+        link: link::after(e.link, n),
+        out,
         sent: a.sent,
     }
 }
 
-// A packet, if there is one, goes to the receiver, and its answer back: what the sender answers then stands in there.
-fn round_trip(hop: Hop, file: &[u8], area: &mut [u8], there: &mut [u8], back: &mut [u8]) -> Hop {
-    let start = hop.ends;
-    if hop.sent == 0 {
-        return hop;
+// The sender's chance to send.
+fn leave(e: Ends, file: &[u8]) -> Ends {
+    let mut out = [0; 259];
+    let a = e.sender.transmit(file, &mut out);
+    with_sender(e, a, out, 0)
+}
+
+// What passes of the bytes that are sent, shown.
+fn passing(e: Ends, arrow: u8, bytes: &[u8]) -> &[u8] {
+    link::packet(
+        e.link,
+        arrow,
+        e.sender.checked(),
+        fields::part(bytes, 0, e.sent),
+    )
+}
+
+// A packet, if there is one, goes to the receiver.
+fn reach(e: Ends, area: &mut [u8]) -> Ends {
+    if link::is_idle(e.link, e.sent) {
+        return e;
     }
-    let before = start.link;
-    if before.broken {
-        return hop;
+    let bytes = e.out;
+    let mut out = [0; 259];
+    let a = e.receiver.receive(passing(e, b'>', &bytes), area, &mut out);
+    with_receiver(e, a, out, e.sent)
+}
+
+// And its answer, if there is one, back to the sender.
+fn answer(e: Ends, file: &[u8]) -> Ends {
+    if link::is_idle(e.link, e.sent) {
+        return e;
     }
-    let met = to_receiver(start, fields::part(there, 0, hop.sent), area, back);
-    let ends = met.ends;
-    if met.sent == 0 {
-        return met;
-    }
-    let over = ends.link;
-    if over.broken {
-        return Hop { ends, sent: 0 };
-    }
-    to_sender(ends, fields::part(back, 0, met.sent), file, there)
+    let bytes = e.out;
+    let mut out = [0; 259];
+    let a = e.sender.receive(passing(e, b'<', &bytes), file, &mut out);
+    with_sender(e, a, out, e.sent)
+}
+
+fn round_trip(e: Ends, file: &[u8], area: &mut [u8]) -> Ends {
+    answer(reach(e, area), file)
 }
 
 // The sender's chance to send, and what follows from it: SI, RR, HD and its answer, or EF, AF, ET and AT, are two round trips.
 fn turn(e: Ends, file: &[u8], area: &mut [u8]) -> Ends {
-    let mut out = [0; 259];
-    let mut answer = [0; 259];
-    let there: &mut [u8] = &mut out;
-    let back: &mut [u8] = &mut answer;
-    let sender = e.sender;
-    let a = sender.transmit(file, there);
-    let next = a.sender;
-    let first = Hop {
-        ends: with_sender(e, next),
-        sent: a.sent,
-    };
-    let second = round_trip(first, file, area, there, back);
-    let third = round_trip(second, file, area, there, back);
-    third.ends
+    round_trip(round_trip(leave(e, file), file, area), file, area)
 }
 
-fn is_ended(state: ReceiverState) -> bool {
-    text::receiver_number(state) == 6
+// The operator stops a sender whose link is broken: it ends when nothing answers.
+fn end_sender(sender: Sender, at: usize, file: &[u8]) {
+    let mut space = [0; 259];
+    let reply: &mut [u8] = &mut space;
+    let a = sender.cancel(file, reply);
+    let b = a.sender.timeout(file, reply);
+    let waiting = text::sender_moved(at, sender_number(a.sender));
+    text::sender_moved(waiting, sender_number(b.sender));
 }
 
-fn is_over(e: Ends) -> bool {
-    let over = e.link;
-    if over.broken {
-        return true;
+fn saved(receiver: Receiver, at: usize, bytes: &mut [u8]) -> Saved {
+    Saved {
+        count: text::count_of(receiver.record(bytes)),
+        whole: text::receiver_moved(at, receiver_number(receiver)) == text::SUCCESS,
     }
-    let receiver = e.receiver;
-    let sender = e.sender;
-    if text::receiver_number(receiver.state()) == 6 {
-        return text::sender_number(sender.state()) == 6;
-    }
-    false
 }
 
-// Turns until both ends have ended or the link is broken.
-fn turns(e: Ends, file: &[u8], area: &mut [u8]) -> Ends {
+// The timer of a receiver whose link is broken: it aborts, and ends when nothing answers. Its record's bytes then stand in bytes.
+fn end_receiver(receiver: Receiver, at: usize, area: &[u8], bytes: &mut [u8]) -> Saved {
+    let mut space = [0; 259];
+    let reply: &mut [u8] = &mut space;
+    let a = receiver.timeout(area, reply);
+    let b = a.receiver.timeout(area, reply);
+    let waiting = text::receiver_moved(at, receiver_number(a.receiver));
+    saved(b.receiver, waiting, bytes)
+}
+
+// Turns until the session is over. An end that has ended takes no call any more.
+fn play(e: Ends, file: &[u8], area: &mut [u8], bytes: &mut [u8]) -> Saved {
     let mut ends = e;
     let mut rest = 200_000_000u32;
     while 0 < rest {
-        if is_over(ends) {
-            return ends;
+        if link::is_over(ends.link, ends.sender_at, ends.receiver_at) {
+            break;
         }
         ends = turn(ends, file, area);
         rest -= 1;
     }
-    ends
+    end_sender(ends.sender, ends.sender_at, file);
+    end_receiver(ends.receiver, ends.receiver_at, area, bytes)
 }
 
-// The timer of a receiver whose link is broken: it aborts, and ends when nothing answers.
-fn receiver_ends(e: Ends, area: &[u8]) -> Ends {
-    let mut space = [0; 259];
-    let reply: &mut [u8] = &mut space;
-    let receiver = e.receiver;
-    if is_ended(receiver.state()) {
-        return e;
-    }
-    let a = receiver.timeout(area, reply);
-    let waiting = a.receiver;
-    let next = with_receiver(e, waiting);
-    let b = waiting.timeout(area, reply);
-    let ended = b.receiver;
-    with_receiver(next, ended)
-}
-
-// The operator stops a sender whose link is broken.
-fn sender_ends(e: Ends, file: &[u8]) -> Ends {
-    let mut space = [0; 259];
-    let reply: &mut [u8] = &mut space;
-    let sender = e.sender;
-    if text::sender_number(sender.state()) == 6 {
-        return e;
-    }
-    let a = sender.cancel(file, reply);
-    let waiting = a.sender;
-    let next = with_sender(e, waiting);
-    let b = waiting.timeout(file, reply);
-    let ended = b.sender;
-    with_sender(next, ended)
-}
-
-// One session, to its end or to the break of the link after so many bytes.
-pub fn session(
-    receiver: Receiver,
-    name: &[u8],
-    stamp: Stamp,
-    left: usize,
-    file: &[u8],
-    area: &mut [u8],
-) -> Receiver {
-    let start = Ends {
-        sender: Sender::begin(name, file.len(), 256, stamp, true),
+// A sender of the file, a receiver, and a link that breaks after so many bytes.
+fn begin(sender: Sender, receiver: Receiver, left: usize) -> Ends {
+    Ends {
+        sender,
         receiver,
+        sender_at: sender_number(sender),
+        receiver_at: receiver_number(receiver),
         link: Link {
             left,
             broken: false,
         },
-    };
-    let met = turns(start, file, area);
-    let settled = receiver_ends(sender_ends(met, file), area);
-    settled.receiver
+        out: [0; 259],
+        sent: 0,
+    }
+}
+
+fn receiver_of(kept: &[u8], room: usize, checks: bool) -> Receiver {
+    if kept.len() == 0 {
+        return Receiver::fresh(room, true, checks);
+    }
+    Receiver::resume(kept, room, true, checks)
+}
+
+fn stamp_of(checks: bool) -> Stamp {
+    if checks {
+        return Stamp::Present(link::STAMP);
+    }
+    Stamp::Absent
+}
+
+// A session of a file; the record's bytes before it stand in bytes, and then those after it.
+pub fn session(
+    bytes: &mut [u8],
+    count: usize,
+    checks: bool,
+    name: &[u8],
+    left: usize,
+    file: &[u8],
+    area: &mut [u8],
+) -> Saved {
+    let receiver = receiver_of(fields::part(bytes, 0, count), area.len(), checks);
+    let sender = Sender::begin(name, file.len(), 256, stamp_of(checks), true);
+    play(begin(sender, receiver, left), file, area, bytes)
 }

@@ -6,13 +6,16 @@ use Rattle.run_bin_receiver.proofs.run.Statement.{statement}
 use Rattle.run_bin_receiver.proofs.run.Tie as tie
 
 abbrev Inv-loop : tie.InvT-loop
-Inv-loop script p₀ at₀ t6 p at = at ≤ length script
+Inv-loop script area₀ m₀ at₀ t6 area m at = at ≤ length script
 
 abbrev μ-loop : tie.MeasureT-loop
-μ-loop script p₀ at₀ t6 p at = length script - at
+μ-loop script area₀ m₀ at₀ t6 area m at = length script - at
 
-start-requires : tie.Need-start-requires Inv-loop μ-loop
-start-requires c κs = search needs
+slice-aggregate-area : tie.Need-slice-aggregate-area Inv-loop μ-loop
+slice-aggregate-area c = search needs
+
+fresh-requires : tie.Need-fresh-requires Inv-loop μ-loop
+fresh-requires c κs = search needs
 
 loop-holds : tie.Need-loop-holds Inv-loop μ-loop
 loop-holds c = search needs
@@ -26,14 +29,17 @@ find-requires c κs = search needs
 part-requires-2 : tie.Need-part-requires-2 Inv-loop μ-loop
 part-requires-2 c κs = search needs
 
-act-requires : tie.Need-act-requires Inv-loop μ-loop
-act-requires c κs = search needs
+put-requires : tie.Need-put-requires Inv-loop μ-loop
+put-requires c κs = search needs
+
+turn-requires : tie.Need-turn-requires Inv-loop μ-loop
+turn-requires c κs = search needs
 
 slice-aggregate-put : tie.Need-slice-aggregate-put Inv-loop μ-loop
 slice-aggregate-put c = search needs
 
-put-requires : tie.Need-put-requires Inv-loop μ-loop
-put-requires c κs = search needs
+put-requires-2 : tie.Need-put-requires-2 Inv-loop μ-loop
+put-requires-2 c κs = search needs
 
 behind-requires : tie.Need-behind-requires Inv-loop μ-loop
 behind-requires c κs = search needs
@@ -53,14 +59,16 @@ run-spec =
     (tie.spec
     Inv-loop
     μ-loop
-    start-requires
+    slice-aggregate-area
+    fresh-requires
     loop-holds
     part-requires
     find-requires
     part-requires-2
-    act-requires
-    slice-aggregate-put
     put-requires
+    turn-requires
+    slice-aggregate-put
+    put-requires-2
     behind-requires
     loop-less
     loop-again

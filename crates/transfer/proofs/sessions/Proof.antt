@@ -24,23 +24,14 @@ loop-holds c = search needs
 add-loop : tie.Need-add-loop Inv-loop μ-loop
 add-loop c = search needs
 
-way-of-requires : tie.Need-way-of-requires Inv-loop μ-loop
-way-of-requires c κs = search needs
+session-requires : tie.Need-session-requires Inv-loop μ-loop
+session-requires c κs = search needs
 
 next-requires-2 : tie.Need-next-requires-2 Inv-loop μ-loop
 next-requires-2 c κs = search needs
 
-left-of-requires : tie.Need-left-of-requires Inv-loop μ-loop
-left-of-requires c κs = search needs
-
 next-requires-3 : tie.Need-next-requires-3 Inv-loop μ-loop
 next-requires-3 c κs = search needs
-
-print-session-requires : tie.Need-print-session-requires Inv-loop μ-loop
-print-session-requires c κs = search needs
-
-by-requires : tie.Need-by-requires Inv-loop μ-loop
-by-requires c κs = search needs
 
 part-requires : tie.Need-part-requires Inv-loop μ-loop
 part-requires c κs = search needs
@@ -79,12 +70,9 @@ sessions-spec =
     next-requires
     loop-holds
     add-loop
-    way-of-requires
+    session-requires
     next-requires-2
-    left-of-requires
     next-requires-3
-    print-session-requires
-    by-requires
     part-requires
     print-record-requires
     same-length

@@ -2,8 +2,8 @@
 use Prim.Native.Nat.{_≤_, _-_}
 use lib.ListN.{length}
 use borrow.Author.Needs.{needs}
-use Rattle.run_bin_receiver.proofs.differs_from.Statement.{statement}
-use Rattle.run_bin_receiver.proofs.differs_from.Tie as tie
+use Rattle.printing.proofs.differs_from.Statement.{statement}
+use Rattle.printing.proofs.differs_from.Tie as tie
 
 abbrev Inv-loop : tie.InvT-loop
 Inv-loop a b i₀ i = i ≤ length a

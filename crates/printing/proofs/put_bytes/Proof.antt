@@ -1,9 +1,9 @@
--- `put_bytes` prints each byte. Assumes nothing.
+-- The loop of `put_bytes` stays within the slice and ends. Assumes nothing.
 use Prim.Native.Nat.{_≤_, _-_}
 use lib.ListN.{length}
 use borrow.Author.Needs.{needs}
-use Rattle.run_lines.proofs.put_bytes.Statement.{statement}
-use Rattle.run_lines.proofs.put_bytes.Tie as tie
+use Rattle.printing.proofs.put_bytes.Statement.{statement}
+use Rattle.printing.proofs.put_bytes.Tie as tie
 
 abbrev Inv-loop : tie.InvT-loop
 Inv-loop s i₀ i = i ≤ length s

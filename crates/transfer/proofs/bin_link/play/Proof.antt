@@ -1,0 +1,63 @@
+-- The loop of `play` ends: the measure is the number of turns that are left. The area stays as long as it was. Assumes nothing.
+use mathlib.Core.Path.{_≡_}
+use lib.ListN.{length}
+use borrow.Author.Needs.{needs}
+use Rattle.transfer.proofs.bin_link.play.Statement.{statement}
+use Rattle.transfer.proofs.bin_link.play.Tie as tie
+
+abbrev Inv-loop : tie.InvT-loop
+Inv-loop file area₀ bytes ends₀ rest₀ area ends rest = length area ≡ length area₀
+
+abbrev μ-loop : tie.MeasureT-loop
+μ-loop file area₀ bytes ends₀ rest₀ area ends rest = rest
+
+loop-holds : tie.Need-loop-holds Inv-loop μ-loop
+loop-holds c = search needs
+
+is-over-requires : tie.Need-is-over-requires Inv-loop μ-loop
+is-over-requires c κs = search needs
+
+turn-requires : tie.Need-turn-requires Inv-loop μ-loop
+turn-requires c κs = search needs
+
+sub-rest : tie.Need-sub-rest Inv-loop μ-loop
+sub-rest c = search needs
+
+loop-less : tie.Need-loop-less Inv-loop μ-loop
+loop-less c = search needs
+
+loop-again : tie.Need-loop-again Inv-loop μ-loop
+loop-again c = search needs
+
+end-sender-requires : tie.Need-end-sender-requires Inv-loop μ-loop
+end-sender-requires c κs = search needs
+
+end-receiver-requires : tie.Need-end-receiver-requires Inv-loop μ-loop
+end-receiver-requires c κs = search needs
+
+same-length : tie.Need-same-length Inv-loop μ-loop
+same-length c = search needs
+
+same-length-2 : tie.Need-same-length-2 Inv-loop μ-loop
+same-length-2 c = search needs
+
+returns : tie.Need-returns Inv-loop μ-loop
+returns c = search needs
+
+pub play-spec : {M : Type 1} → statement M
+play-spec =
+    tie.close
+    (tie.spec
+    Inv-loop
+    μ-loop
+    loop-holds
+    is-over-requires
+    turn-requires
+    sub-rest
+    loop-less
+    loop-again
+    end-sender-requires
+    end-receiver-requires
+    same-length
+    same-length-2
+    returns)
