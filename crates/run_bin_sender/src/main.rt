@@ -22,6 +22,8 @@ use printing::put_text;
 ghost use Prim.Native.Nat.{_≤_, _<_};
 ghost use lib.ListN.{length};
 
+mod printing;
+
 // ---- Printing
 
 fn put_state(state: SenderState) {

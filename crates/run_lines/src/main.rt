@@ -8,6 +8,8 @@ use printing::put_bytes;
 use printing::put_number;
 ghost use Prim.Native.Nat.{_≤_, _<_};
 
+mod printing;
+
 fn put_stamp(v: u32) {
     let mut digits = [0u8; 8];
     numerals::append_hex(&mut digits, 0, v);

@@ -8,6 +8,8 @@ use records::Record;
 use records::RecordRead;
 ghost use Prim.Native.Nat.{_≤_, _<_};
 
+mod printing;
+
 fn print_byte(b: u8) {
     let mut digits = [0u8; 2];
     numerals::fill_hex(&mut digits, b as u32);

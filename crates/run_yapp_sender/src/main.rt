@@ -24,6 +24,8 @@ use yapp_sender::SenderAnswer;
 ghost use Prim.Native.Nat.{_≤_, _<_};
 ghost use lib.ListN.{length};
 
+mod printing;
+
 // ---- Printing
 
 fn put_start(begun: bool, timeouts: u8) {

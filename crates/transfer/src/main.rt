@@ -12,6 +12,7 @@ ghost use lib.ListN.{length};
 
 mod bin_link;
 mod link;
+mod printing;
 mod text;
 mod yapp_link;
 

@@ -1,11 +1,11 @@
 // The lines of the transcript. States, packets and frames are numbers here: the places of their words.
+use crate::printing::put;
+use crate::printing::put_number;
+use crate::printing::put_word;
 use bin::ReceiverState as BinReceiverState;
 use bin::SenderState as BinSenderState;
 use calls::Outcome;
 use lines::Frame;
-use printing::put;
-use printing::put_number;
-use printing::put_word;
 use yapp::ReceiverState;
 use yapp::SenderState;
 ghost use Prim.Native.Nat.{_≤_};

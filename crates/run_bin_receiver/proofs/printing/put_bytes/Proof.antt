@@ -2,8 +2,8 @@
 use Prim.Native.Nat.{_≤_, _-_}
 use lib.ListN.{length}
 use borrow.Author.Needs.{needs}
-use Rattle.printing.proofs.put_bytes.Statement.{statement}
-use Rattle.printing.proofs.put_bytes.Tie as tie
+use Rattle.run_bin_receiver.proofs.printing.put_bytes.Statement.{statement}
+use Rattle.run_bin_receiver.proofs.printing.put_bytes.Tie as tie
 
 abbrev Inv-loop : tie.InvT-loop
 Inv-loop s i₀ i = i ≤ length s

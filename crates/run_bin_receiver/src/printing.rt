@@ -1,4 +1,4 @@
-// What the programs print: texts, bytes, numbers, and what calls answer. No contract can say what is written.
+// What the program prints.
 use calls::Outcome;
 use calls::RecordAnswer;
 use calls::Status;
@@ -94,18 +94,6 @@ pub fn put_stored(label: &[u8], before: &[u8], after: &[u8]) {
         b" ",
         fields::part(all, differs_from(before, after), all.len()),
     );
-}
-
-// The word with this number, from 0 on; a bar stands behind each word.
-pub fn put_word(words: &[u8], number: usize) {
-    let mut rest = words;
-    let mut i = 0;
-    while i < number {
-        let end = fields::find(rest, b'|');
-        rest = fields::part(fields::part(rest, end, rest.len()), 1, rest.len());
-        i += 1;
-    }
-    put(fields::part(rest, 0, fields::find(rest, b'|')));
 }
 
 // Document 01's number.

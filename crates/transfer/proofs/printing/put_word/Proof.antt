@@ -1,8 +1,8 @@
 -- The loop of `put_word` ends. Assumes nothing.
 use Prim.Native.Nat.{_≤_, _-_}
 use borrow.Author.Needs.{needs}
-use Rattle.printing.proofs.put_word.Statement.{statement}
-use Rattle.printing.proofs.put_word.Tie as tie
+use Rattle.transfer.proofs.printing.put_word.Statement.{statement}
+use Rattle.transfer.proofs.printing.put_word.Tie as tie
 
 abbrev Inv-loop : tie.InvT-loop
 Inv-loop words number rest₀ i₀ rest i = i ≤ number

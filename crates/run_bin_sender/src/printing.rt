@@ -1,0 +1,132 @@
+// What the program prints.
+use calls::Outcome;
+use calls::Status;
+use libc::STDOUT_FILENO;
+
+pub fn put(s: &[u8]) {
+    io::write_all(STDOUT_FILENO, s);
+}
+
+pub fn put_number(label: &[u8], n: usize) {
+    put(label);
+    io::print_decimal(STDOUT_FILENO, n as u64);
+}
+
+// A printable byte as it is, any other in hex.
+fn put_byte(c: u8) {
+    if 32 <= c {
+        if c <= 126 {
+            let one = [c];
+            put(&one);
+            return;
+        }
+    }
+    let mut digits = [0u8; 2];
+    numerals::fill_hex(&mut digits, c as u32);
+    put(b"<");
+    put(&digits);
+    put(b">");
+}
+
+pub fn put_bytes(s: &[u8]) {
+    let mut i = 0;
+    while i < s.len() {
+        put_byte(s[i]);
+        i += 1;
+    }
+}
+
+// Nothing where s is empty.
+pub fn put_text(label: &[u8], s: &[u8]) {
+    if 0 < s.len() {
+        put(label);
+        put_bytes(s);
+    }
+}
+
+// Where the first byte stands that differs; the length where none does.
+fn differs_from(a: &[u8], b: &[u8]) -> usize {
+    let mut i = 0;
+    while i < a.len() {
+        if fields::byte_at(a, i) == fields::byte_at(b, i) {
+            i += 1;
+        } else {
+            return i;
+        }
+    }
+    i
+}
+
+// The index behind the last byte that differs; 0 where none does.
+fn differs_to(a: &[u8], b: &[u8]) -> usize {
+    let mut to = 0;
+    let mut i = 0;
+    while i < a.len() {
+        if fields::byte_at(a, i) != fields::byte_at(b, i) {
+            to = i + 1;
+        }
+        i += 1;
+    }
+    to
+}
+
+// Where after is not before, byte by byte.
+pub fn put_change(label: &[u8], before: &[u8], after: &[u8]) {
+    put(label);
+    if fields::same(before, after) {
+        put(b" untouched");
+        return;
+    }
+    put_number(b" ", differs_from(before, after));
+    put_number(b"..", differs_to(before, after));
+}
+
+// Document 01's number.
+fn number_of(outcome: Outcome) -> usize {
+    match outcome {
+        Outcome::Success => 0,
+        Outcome::RecordUnreadable => 1,
+        Outcome::RecordOver => 2,
+        Outcome::NameOutside => 3,
+        Outcome::LengthOutside => 4,
+        Outcome::BlockOutside => 5,
+        Outcome::Unexpected => 6,
+        Outcome::Malformed => 7,
+        Outcome::NoRoom => 8,
+        Outcome::HaveFile => 9,
+        Outcome::Differs => 10,
+        Outcome::CheckFailed => 11,
+        Outcome::PastSize => 12,
+        Outcome::Short => 13,
+        Outcome::Refused => 14,
+        Outcome::Cancelled => 15,
+        Outcome::NotOurs => 16,
+        Outcome::TimedOut => 17,
+        Outcome::SecondFile => 21,
+        Outcome::Stopped => 23,
+    }
+}
+
+// An end's outcome, by its number.
+pub fn put_outcome(label: &[u8], outcome: Outcome) {
+    put_number(label, number_of(outcome));
+}
+
+// The number of a refused call; 0 where it was taken.
+fn refusal_of(status: Status) -> usize {
+    match status {
+        Status::Taken => 0,
+        Status::Over => 18,
+        Status::LongFrame => 19,
+        Status::SmallReply => 20,
+        Status::WrongLength => 40,
+    }
+}
+
+// Nothing where the call was taken.
+pub fn put_status(status: Status) {
+    let n = refusal_of(status);
+    if 0 < n {
+        put_number(b" refused ", n);
+    }
+}
