@@ -55,19 +55,28 @@ fn cuts(title: &[u8], packet: &[u8]) {
     }
 }
 
-fn cut_packets() {
+fn cut_acknowledgements() {
     cuts(b"== RR cut\n", b"\x06\x01");
     cuts(b"== RF cut\n", b"\x06\x02");
     cuts(b"== AF cut\n", b"\x06\x03");
     cuts(b"== AT cut\n", b"\x06\x04");
     cuts(b"== CA cut\n", b"\x06\x05");
     cuts(b"== RT cut\n", b"\x06\x06");
+}
+
+fn cut_enquiries() {
     cuts(b"== SI cut\n", b"\x05\x01");
     cuts(b"== RI cut\n", b"\x05\x02\x03*.*");
+}
+
+fn cut_file() {
     cuts(b"== HD cut\n", b"\x01\x0Blot7.csv\x003\x00");
     cuts(b"== DT cut\n", b"\x02\x03ABC");
     cuts(b"== EF cut\n", b"\x03\x01");
     cuts(b"== ET cut\n", b"\x04\x01");
+}
+
+fn cut_texts() {
     cuts(b"== NR cut\n", b"\x15\x03one");
     cuts(b"== RE cut\n", b"\x15\x05R\x0044\x00");
     cuts(b"== CN cut\n", b"\x18\x04stop");
@@ -115,6 +124,9 @@ fn main() {
         b"== headers with an option\n",
         b"\x01\x05a\x003\x00z\x01\x0Da\x003\x005A214800\x00",
     );
-    cut_packets();
+    cut_acknowledgements();
+    cut_enquiries();
+    cut_file();
+    cut_texts();
     long();
 }
