@@ -1,29 +1,17 @@
 // The YAPP receiver.
-use calls::Entry;
 use calls::Keeping;
-use calls::Outcome;
 use calls::RecordAnswer;
 use calls::Status;
 use reader::Reader;
-use records::Record;
-use records::RecordRead;
 use yapp::ReceiverState;
+use yapp_calls::Answer;
+use yapp_calls::Event;
 use yapp_steps::ReceiverCore;
-use yapp_steps::Settings;
-use yapp_steps::Step;
 ghost use mathlib.Core.Path.{_≡_};
-ghost use mathlib.Core.List.{List, []};
-ghost use lib.ListN.{length};
-ghost use Prim.Native.Nat.{ℕ, _≤_};
 ghost use Rattle.fields.specs.Buffer.{appended};
-ghost use Rattle.reader.specs.Reader.{receive as reads};
-ghost use Rattle.records.specs.Saved.{savedOf};
-ghost use Rattle.calls.specs.Checks.{checkOf};
 ghost use Rattle.calls.specs.Recording.{recordAnswer, recordLeft};
-ghost use Rattle.yapp.specs.Steps.{receiverEnded, receiverTimes, receiverStops};
-ghost use Rattle.yapp_steps.specs.Receiving.{reached, reachedBy};
-ghost use Rattle.yapp_receiver.specs.Receiver.{withSaved, nowOf, arrived, fresh as freshOf, resume as resumeOf, transmit as transmitOf, receive as receiveOf, timeout as timeoutOf, cancel as cancelOf, recordBy};
-ghost use Rattle.yapp_receiver.specs.Answers.{begunAs, refusedBy, movedBy, answerBy, replyBy, settled};
+ghost use Rattle.yapp_receiver.specs.Receiver.{fresh as freshOf, resume as resumeOf, transmit as transmitOf, receive as receiveOf, timeout as timeoutOf, cancel as cancelOf, recordBy};
+ghost use Rattle.yapp_receiver.specs.Answers.{begunAs, answeredBy, settlesOf};
 
 pub struct Receiver {
     reader: Reader,
@@ -49,8 +37,15 @@ fn keep_name(own: &mut [u8; 64], name: &[u8])
 }
 
 // A receiver in a state, with a record or none.
-fn begin(state: ReceiverState, settings: Settings, keeping: Keeping, name: &[u8]) -> Receiver
-    ensures { λ r. ⌜ r ≡ begunAs state settings keeping (now (name .entry)) ⌝ }
+fn begin(
+    state: ReceiverState,
+    room: usize,
+    resumes: bool,
+    checks: bool,
+    keeping: Keeping,
+    name: &[u8],
+) -> Receiver
+    ensures { λ r. ⌜ r ≡ begunAs state room resumes checks keeping (now (name .entry)) ⌝ }
 {
     let mut own = [0; 64];
     keep_name(&mut own, name);
@@ -60,68 +55,17 @@ fn begin(state: ReceiverState, settings: Settings, keeping: Keeping, name: &[u8]
         name: own,
         core: ReceiverCore {
             state,
-            room: settings.room,
-            resumes: settings.resumes,
-            checks: settings.checks,
+            room,
+            resumes,
+            checks,
             keeping,
         },
     }
 }
 
-// A beginning that is refused: an end that has ended, with no record.
-fn begin_ended(outcome: Outcome, settings: Settings) -> Receiver
-    ensures { λ r. ⌜ r ≡ begunAs (ReceiverState.Ended outcome) settings Keeping.Nothing [] ⌝ }
-{
-    begin(
-        ReceiverState::Ended { outcome },
-        settings,
-        Keeping::Nothing,
-        b"",
-    )
-}
-
-// From a record; kept over size, or size over area, is 2.
-fn begin_saved(r: Record, bytes: &[u8], settings: Settings) -> Receiver
-    ensures { λ m. ⌜ m ≡ withSaved (settings .room) (settings .resumes) (settings .checks) (savedOf (now (bytes .entry)) r) ⌝ }
-{
-    let place = r.name;
-    let stamp = r.stamp;
-    let name = fields::bytes_at(bytes, place);
-    if calls::is_within(r.kept, r.size, settings.room) {
-        let keeping = Keeping::Of(Entry {
-            named: name.len(),
-            size: r.size,
-            kept: r.kept,
-            stamp,
-        });
-        return begin(ReceiverState::R, settings, keeping, name);
-    }
-    begin_ended(Outcome::RecordOver, settings)
-}
-
-fn is_ended(state: ReceiverState) -> bool
-    ensures { λ r. ⌜ r ≡ receiverEnded state ⌝ }
-{
-    match state {
-        ReceiverState::R => false,
-        ReceiverState::RH { whole: _ } => false,
-        ReceiverState::RD => false,
-        ReceiverState::CW { outcome: _ } => false,
-        ReceiverState::Ended { outcome: _ } => true,
-    }
-}
-
-fn check_call(m: Receiver, area: usize, reply: usize) -> Status
-    ensures { λ r. ⌜ r ≡ checkOf (receiverEnded (m .core .state)) reply 0 area (m .core .room) ⌝ }
-{
-    let core = m.core;
-    let state = core.state;
-    calls::check(is_ended(state), reply, 0, area, core.room)
-}
-
 // A refused call changes nothing.
 fn refused(receiver: Receiver, status: Status) -> ReceiverAnswer
-    ensures { λ r. ⌜ r ≡ refusedBy receiver status ⌝ }
+    ensures { λ r. ⌜ r ≡ record { receiver = receiver; status = status; taken = 0; sent = 0; stored = 0 } ⌝ }
 {
     ReceiverAnswer {
         receiver,
@@ -132,92 +76,31 @@ fn refused(receiver: Receiver, status: Status) -> ReceiverAnswer
     }
 }
 
-// The receiver after a step. A new name stands in the pending bytes.
-fn moved(m: Receiver, reader: Reader, step: Step) -> Receiver
-    ensures { λ r. ⌜ r ≡ movedBy m reader step ⌝ }
+// The receiver after a call, and what the call answers.
+fn answered(name: [u8; 64], answer: Answer) -> ReceiverAnswer
+    ensures { λ r. ⌜ r ≡ answeredBy name answer ⌝ }
 {
-    let core = m.core;
-    let mut own = m.name;
-    let state = step.state;
-    let keeping = step.keeping;
-    let place = step.name;
-    let pending = reader.pending();
-    keep_name(&mut own, fields::bytes_at(&pending, place));
-    let next = reader.checking(step.checked);
-    Receiver {
-        reader: next,
-        name: own,
-        core: ReceiverCore {
-            state,
-            room: core.room,
-            resumes: core.resumes,
-            checks: core.checks,
-            keeping,
-        },
-    }
-}
-
-// Keeps the name, writes the reply, and answers.
-fn finish(m: Receiver, reader: Reader, taken: usize, step: Step, reply: &mut [u8]) -> ReceiverAnswer
-    requires { ⌜ 259 ≤ length (now reply) ⌝ }
-    ensures { λ r. ⌜ (r ≡ answerBy m reader taken step) × (now (reply .exit) ≡ replyBy step (now (reply .entry))) ⌝ }
-{
-    let out = step.out;
-    let sent = yapp_replies::put(reply, out, step.checked);
-    let receiver = moved(m, reader, step);
+    let reader = answer.reader;
+    let core = answer.core;
+    let status = answer.status;
     ReceiverAnswer {
-        receiver,
-        status: Status::Taken,
-        taken,
-        sent,
-        stored: step.stored,
+        receiver: Receiver { reader, name, core },
+        status,
+        taken: answer.taken,
+        sent: answer.sent,
+        stored: answer.stored,
     }
 }
 
-// A call that is taken: reads the chunk, decides, and acts.
-fn arrive(m: Receiver, chunk: &[u8], area: &mut [u8], reply: &mut [u8]) -> ReceiverAnswer
-    requires { ⌜ 259 ≤ length (now reply) ⌝ }
-    ensures { λ r. ⌜ arrived m (reads (m .reader) (now (chunk .entry))) (now (area .entry)) (now (reply .entry)) ≡ record { answer = r; area = now (area .exit); reply = now (reply .exit) } ⌝ }
+// Timer or operator's stop.
+fn settle(m: Receiver, event: Event, area: &[u8], reply: &mut [u8]) -> ReceiverAnswer
+    ensures { λ r. ⌜ settlesOf event m (now (area .entry)) (now (reply .entry)) ≡ record { answer = r; area = now (area .entry); reply = now (reply .exit) } ⌝ }
 {
     let core = m.core;
-    let name = m.name;
     let reader = m.reader;
-    let received = reader.receive(chunk);
-    let step = yapp_receiving::take(core, reader.checked(), &name, received, area);
-    let found = received.reader;
-    finish(m, found, received.taken, step, reply)
-}
-
-// The timer's step.
-fn time_out(m: Receiver) -> Step
-    ensures { λ r. ⌜ ((a p : List ℕ) → reached (m .name) (receiverTimes (nowOf m) a (m .core .state)) ≡ reachedBy p (m .name) r a) ⌝ }
-{
-    let core = m.core;
-    let name = m.name;
-    let reader = m.reader;
-    yapp_receiving::time_out(core, reader.checked(), &name)
-}
-
-// The step of the operator's stop.
-fn stop(m: Receiver) -> Step
-    ensures { λ r. ⌜ ((a p : List ℕ) → reached (m .name) (receiverStops (nowOf m) a (m .core .state)) ≡ reachedBy p (m .name) r a) ⌝ }
-{
-    let core = m.core;
-    let name = m.name;
-    let reader = m.reader;
-    yapp_receiving::stop(core, reader.checked(), &name)
-}
-
-// Takes a step where the call is not refused.
-fn settle(m: Receiver, step: Step, area: &[u8], reply: &mut [u8]) -> ReceiverAnswer
-    ensures { λ r. ⌜ settled m step (now (area .entry)) (now (reply .entry)) ≡ record { answer = r; area = now (area .entry); reply = now (reply .exit) } ⌝ }
-{
-    let reader = m.reader;
-    let status = check_call(m, area.len(), reply.len());
-    if calls::is_taken(status) {
-        return finish(m, reader, 0, step, reply);
-    }
-    refused(m, status)
+    let mut name = m.name;
+    let answer = yapp_calls::settle(event, core, reader, &mut name, area, reply);
+    answered(name, answer)
 }
 
 impl Receiver {
@@ -230,34 +113,34 @@ impl Receiver {
     pub fn fresh(room: usize, resumes: bool, checks: bool) -> Self
         ensures { λ r. ⌜ r ≡ freshOf room resumes checks ⌝ }
     {
-        let settings = Settings {
+        begin(
+            ReceiverState::R,
             room,
             resumes,
             checks,
-        };
-        begin(ReceiverState::R, settings, Keeping::Nothing, b"")
+            Keeping::Nothing,
+            b"",
+        )
     }
 
     // A receiver with the record that these bytes are; one that is unreadable is 1.
     pub fn resume(bytes: &[u8], room: usize, resumes: bool, checks: bool) -> Self
         ensures { λ r. ⌜ r ≡ resumeOf (now (bytes .entry)) room resumes checks ⌝ }
     {
-        let settings = Settings {
-            room,
-            resumes,
-            checks,
-        };
-        let RecordRead::Good(r) = record_reader::record_of(bytes) else {
-            return begin_ended(Outcome::RecordUnreadable, settings);
-        };
-        begin_saved(r, bytes, settings)
+        let begun = yapp_checks::begin(bytes, room);
+        let state = begun.state;
+        let keeping = begun.keeping;
+        let place = begun.name;
+        let name = fields::bytes_at(bytes, place);
+        begin(state, room, resumes, checks, keeping, name)
     }
 
     // A chance to send; a receiver has nothing to send.
     pub fn transmit(self, area: &[u8], reply: &mut [u8]) -> ReceiverAnswer
         ensures { λ r. ⌜ transmitOf self (now (area .entry)) (now (reply .entry)) ≡ record { answer = r; area = now (area .entry); reply = now (reply .exit) } ⌝ }
     {
-        let status = check_call(self, area.len(), reply.len());
+        let core = self.core;
+        let status = yapp_checks::check(core, area.len(), reply.len());
         refused(self, status)
     }
 
@@ -265,27 +148,25 @@ impl Receiver {
     pub fn receive(self, chunk: &[u8], area: &mut [u8], reply: &mut [u8]) -> ReceiverAnswer
         ensures { λ r. ⌜ receiveOf self (now (chunk .entry)) (now (area .entry)) (now (reply .entry)) ≡ record { answer = r; area = now (area .exit); reply = now (reply .exit) } ⌝ }
     {
-        let status = check_call(self, area.len(), reply.len());
-        if calls::is_taken(status) {
-            return arrive(self, chunk, area, reply);
-        }
-        refused(self, status)
+        let core = self.core;
+        let reader = self.reader;
+        let mut name = self.name;
+        let answer = yapp_calls::receive(core, reader, &mut name, chunk, area, reply);
+        answered(name, answer)
     }
 
     // The timer has run out.
     pub fn timeout(self, area: &[u8], reply: &mut [u8]) -> ReceiverAnswer
         ensures { λ r. ⌜ timeoutOf self (now (area .entry)) (now (reply .entry)) ≡ record { answer = r; area = now (area .entry); reply = now (reply .exit) } ⌝ }
     {
-        let step = time_out(self);
-        settle(self, step, area, reply)
+        settle(self, Event::Timer, area, reply)
     }
 
     // The operator's stop.
     pub fn cancel(self, area: &[u8], reply: &mut [u8]) -> ReceiverAnswer
         ensures { λ r. ⌜ cancelOf self (now (area .entry)) (now (reply .entry)) ≡ record { answer = r; area = now (area .entry); reply = now (reply .exit) } ⌝ }
     {
-        let step = stop(self);
-        settle(self, step, area, reply)
+        settle(self, Event::Stop, area, reply)
     }
 
     // Writes the record's bytes, where there is a record.

@@ -1,22 +1,20 @@
--- `receive` checks the call. Assumes nothing.
-use Rattle.yapp_receiver.proofs.Answering.{taken-by, unless-taken, unless-refused}
-use Rattle.calls.proofs.Laws.{taken-room}
-use Rattle.reader.specs.Reader.{receive as reads}
-use Rattle.yapp_receiver.specs.Receiver.{receive, arrived, statusOf}
-use mathlib.Core.Path.{_∙_}
+-- `receive` is what the call below leaves. Assumes nothing.
+use mathlib.Core.Path.{ap, _∙_}
 use denote.Ref.{now}
+use Rattle.yapp_receiver.specs.Answers.{afterBy}
+use Rattle.yapp_receiver.proofs.Calls.{receive-is}
 use borrow.Author.Needs.{needs}
 use Rattle.yapp_receiver.proofs.Receiver.receive.Statement.{statement}
 use Rattle.yapp_receiver.proofs.Receiver.receive.Tie as tie
 
-check-call-requires : tie.Need-check-call-requires
-check-call-requires c κs = search needs
+slice-aggregate-receive : tie.Need-slice-aggregate-receive
+slice-aggregate-receive c = search needs
 
-is-taken-requires : tie.Need-is-taken-requires
-is-taken-requires c κs = search needs
+receive-requires : tie.Need-receive-requires
+receive-requires c κs = search needs
 
-arrive-requires : tie.Need-arrive-requires
-arrive-requires c κs = taken-room _ _ _ _ _ (taken-by (c .before .before .before .before .check-call .ensures) (c .before .before .before .is-taken .ensures) (c .before .before .if1 .taken)) .0
+answered-requires : tie.Need-answered-requires
+answered-requires c κs = search needs
 
 same-length : tie.Need-same-length
 same-length c = search needs
@@ -25,31 +23,17 @@ same-length-2 : tie.Need-same-length-2
 same-length-2 c = search needs
 
 returns : tie.Need-returns
-unfolding receive
 returns c =
-    let g = c .before .before .before .before .before .before .before .before .before .before .before .before .before .args in
-    unless-taken (g .self) (now (g .area)) (now (g .reply)) (arrived (g .self) (reads (g .self .reader) (now (g .chunk))) (now (g .area)) (now (g .reply))) (statusOf (g .self) (now (g .area)) (now (g .reply))) (taken-by (c .before .before .before .before .before .before .before .before .before .check-call .ensures) (c .before .before .before .before .before .before .before .before .is-taken .ensures) (c .before .before .before .before .before .before .before .if1 .taken))
-    ∙ c .before .before .before .before .arrive .ensures
-
-refused-requires : tie.Need-refused-requires
-refused-requires c κs = search needs
-
-returns-2 : tie.Need-returns-2
-unfolding receive
-returns-2 c =
-    let g = c .before .before .before .before .before .before .before .args in
-    unless-refused (g .self) (now (g .area)) (now (g .reply)) (arrived (g .self) (reads (g .self .reader) (now (g .chunk))) (now (g .area)) (now (g .reply))) (statusOf (g .self) (now (g .area)) (now (g .reply))) (taken-by (c .before .before .before .check-call .ensures) (c .before .before .is-taken .ensures) (c .before .if1 .left))
-    ∙ rw (c .refused .ensures, c .before .before .before .check-call .ensures)
+    let a = c .before .before .before .before .before .before .before .before .before .before .before .before .before .before .before .before .args in
+    receive-is (a .self) (now (a .area)) (now (a .reply)) (now (a .chunk)) ∙ ap afterBy (c .before .before .before .before .before .before .receive .ensures) ∙ rw (c .answered .ensures)
 
 pub receive-spec : {M : Type 1} → statement M
 receive-spec =
     tie.close
     (tie.spec
-    check-call-requires
-    is-taken-requires
-    arrive-requires
+    slice-aggregate-receive
+    receive-requires
+    answered-requires
     same-length
     same-length-2
-    returns
-    refused-requires
-    returns-2)
+    returns)

@@ -1,40 +1,24 @@
--- `resume` goes by what the record's bytes are. Assumes nothing.
-use Rattle.yapp_receiver.specs.Receiver.{resume}
+-- `resume` is the beginning that the record's bytes give. Assumes nothing.
+use mathlib.Core.Path.{sym, _∙_}
+use denote.Ref.{now}
+use Rattle.yapp_receiver.proofs.Calls.{resume-is}
 use borrow.Author.Needs.{needs}
 use Rattle.yapp_receiver.proofs.Receiver.resume.Statement.{statement}
 use Rattle.yapp_receiver.proofs.Receiver.resume.Tie as tie
 
-record-of-requires : tie.Need-record-of-requires
-record-of-requires c κs = search needs
+begin-requires : tie.Need-begin-requires
+begin-requires c κs = search needs
 
-enum-known-r : tie.Need-enum-known-r
-enum-known-r c = search needs
+bytes-at-requires : tie.Need-bytes-at-requires
+bytes-at-requires c κs = search needs
 
-enum-told : tie.Need-enum-told
-enum-told c = search needs
-
-begin-ended-requires : tie.Need-begin-ended-requires
-begin-ended-requires c κs = search needs
+begin-requires-2 : tie.Need-begin-requires-2
+begin-requires-2 c κs = search needs
 
 returns : tie.Need-returns
-unfolding resume
-returns c = rw (← c .before .before .before .record-of .ensures, c .before .enum-told .given .1) (c .begin-ended .ensures)
-
-begin-saved-requires : tie.Need-begin-saved-requires
-begin-saved-requires c κs = search needs
-
-returns-2 : tie.Need-returns-2
-unfolding resume
-returns-2 c = rw (← c .before .before .before .before .record-of .ensures, c .before .before .r .given .1) (c .begin-saved .ensures)
+returns c =
+    let a = c .before .before .before .before .before .args in
+    rw (c .begin2 .ensures, c .before .bytes-at .ensures, c .before .before .before .begin .ensures) (sym (resume-is (now (a .bytes)) (a .room) (a .resumes) (a .checks)))
 
 pub resume-spec : {M : Type 1} → statement M
-resume-spec =
-    tie.close
-    (tie.spec
-    record-of-requires
-    enum-known-r
-    enum-told
-    begin-ended-requires
-    returns
-    begin-saved-requires
-    returns-2)
+resume-spec = tie.close (tie.spec begin-requires bytes-at-requires begin-requires-2 returns)

@@ -1,16 +1,9 @@
--- `timeout` settles its step. Assumes nothing.
-use Rattle.yapp_receiver.proofs.Answering.{replied-is}
-use Rattle.yapp.specs.Steps.{receiverTimes}
-use Rattle.yapp_receiver.specs.Receiver.{ReceiverAfter, unlessRefused, statusOf, nowOf, timeout}
-use Rattle.yapp_receiver.specs.Answers.{settled}
-use mathlib.Core.Path.{ap, _∙_}
-use denote.Ref.{now}
+-- `timeout` is the timer. Assumes nothing.
+use Rattle.yapp_receiver.specs.Answers.{settlesOf}
+use Rattle.yapp_receiver.specs.Receiver.{timeout}
 use borrow.Author.Needs.{needs}
 use Rattle.yapp_receiver.proofs.Receiver.timeout.Statement.{statement}
 use Rattle.yapp_receiver.proofs.Receiver.timeout.Tie as tie
-
-time-out-requires : tie.Need-time-out-requires
-time-out-requires c κs = search needs
 
 settle-requires : tie.Need-settle-requires
 settle-requires c κs = search needs
@@ -19,15 +12,8 @@ same-length : tie.Need-same-length
 same-length c = search needs
 
 returns : tie.Need-returns
-unfolding timeout settled
-returns c =
-    let g = c .before .before .before .before .before .before .before .args in
-    let m = g .self in
-    let a = now (g .area) in
-    let y = now (g .reply) in
-    ap (λ (x : ReceiverAfter). unlessRefused (statusOf m a y) m a y x)
-    (replied-is m (m .reader) 0 y (receiverTimes (nowOf m) a (m .core .state)) (c .before .before .before .before .time-out .result) a (c .before .before .before .before .time-out .ensures a (m .reader .pending)))
-    ∙ c .before .before .settle .ensures
+unfolding timeout settlesOf
+returns c = c .before .before .settle .ensures
 
 pub timeout-spec : {M : Type 1} → statement M
-timeout-spec = tie.close (tie.spec time-out-requires settle-requires same-length returns)
+timeout-spec = tie.close (tie.spec settle-requires same-length returns)

@@ -4,15 +4,15 @@ use borrow.Author.Needs.{needs}
 use Rattle.yapp_receiver.proofs.Receiver.transmit.Statement.{statement}
 use Rattle.yapp_receiver.proofs.Receiver.transmit.Tie as tie
 
-check-call-requires : tie.Need-check-call-requires
-check-call-requires c κs = search needs
+check-requires : tie.Need-check-requires
+check-requires c κs = search needs
 
 refused-requires : tie.Need-refused-requires
 refused-requires c κs = search needs
 
 returns : tie.Need-returns
 unfolding transmit
-returns c = rw (c .refused .ensures, c .before .check-call .ensures)
+returns c = rw (c .refused .ensures, c .before .check .ensures)
 
 pub transmit-spec : {M : Type 1} → statement M
-transmit-spec = tie.close (tie.spec check-call-requires refused-requires returns)
+transmit-spec = tie.close (tie.spec check-requires refused-requires returns)

@@ -1,0 +1,104 @@
+-- What the calls leave, from what a step leaves. Assumes nothing.
+use mathlib.Core.Path.{_≡_, refl, ap, sym, _∙_}
+use mathlib.Core.Bool.{Bool, true, false}
+use mathlib.Core.List.{List}
+use Prim.Native.Nat.{ℕ}
+use native.Mathlib.Omega.{arith}
+use lib.ListN.{length}
+use Rattle.fields.specs.Buffer.{over}
+use Rattle.packets.specs.Content.{contentOf}
+use Rattle.reader.specs.declared.Reader.{Reader}
+use Rattle.reader.specs.declared.Received.{Received}
+use Rattle.reader.specs.Reader.{checking, receive as reads}
+use Rattle.calls.specs.declared.Status.{Status}
+use Rattle.calls.specs.declared.Status.the-variants.{Taken, Over, LongFrame, SmallReply, WrongLength}
+use Rattle.calls.specs.Checks.{isTaken}
+use Rattle.yapp.specs.Steps.{writes, ReceiverMove, receiverTakes}
+use Rattle.yapp_steps.specs.declared.ReceiverCore.{ReceiverCore}
+use Rattle.yapp_steps.specs.declared.Step.{Step}
+use Rattle.yapp_steps.specs.Receiving.{Reached, reached, reachedBy, settingsIn, currentIn, settingsBy, nowBy}
+use Rattle.yapp_calls.specs.declared.Event.{Event}
+use Rattle.yapp_calls.specs.Calls.{Left, leftAs, leftBy, coreAt, refusedAs, unless, statusOf, arrives, receives, moveBy, settles, leaves}
+
+never : {A : Type 0} → false ≡ true → A
+never h = absurd (let z : _≡_ {A = ℕ} 0 1 = cc h in omega arith)
+
+-- what a call knows that asked for its status and whether it is taken
+pub taken-by : {s t : Status} {b x : Bool} → s ≡ t → b ≡ isTaken s → b ≡ x → isTaken t ≡ x
+taken-by p q r = ap isTaken (sym p) ∙ sym q ∙ r
+
+-- ---- what a step leaves
+
+module _ (c : ReceiverCore) (r : Reader) (taken : ℕ) (reply : List ℕ) where
+  abbrev left : Reached → Left
+  left x = record {
+    answer = record {
+      reader = checking (x .checked) r;
+      core = coreAt c (x .state) (x .keeping);
+      status = Taken;
+      taken = taken;
+      sent = length (writes (x .checked) (x .out));
+      stored = x .stored;
+    };
+    name = x .name;
+    area = x .area;
+    reply = over 0 (writes (x .checked) (x .out)) reply;
+  }
+
+  left-is : (name : List ℕ) (v : ReceiverMove) (s : Step) (a : List ℕ) → reached name v ≡ reachedBy (r .pending) name s a
+      → leftBy c r taken v name reply ≡ leaves c r taken s name a reply
+  left-is name v s a h = ap left h
+
+pub arrives-is : (c : ReceiverCore) (k checked : Bool) (g h : Received) (name area reply : List ℕ) (s : Step) (a : List ℕ) → k ≡ checked
+    → g ≡ h
+    → reached name (receiverTakes (settingsBy (settingsIn c)) (nowBy (currentIn c k) name) area (contentOf (g .reader .pending) (g .packet)))
+    ≡ reachedBy (g .reader .pending) name s a
+    → arrives c checked h name area reply ≡ leaves c (g .reader) (g .taken) s name a reply
+arrives-is c k checked g h name area reply s a e f q =
+    ap (λ (x : Received). arrives c checked x name area reply) (sym f)
+    ∙ ap (λ (x : Bool). arrives c x g name area reply) (sym e)
+    ∙ left-is c (g .reader) (g .taken) reply name
+    (receiverTakes (settingsBy (settingsIn c)) (nowBy (currentIn c k) name) area (contentOf (g .reader .pending) (g .packet))) s a q
+
+-- ---- whether a call is taken
+
+module _ (c : ReceiverCore) (r : Reader) (name area reply : List ℕ) where
+  unless-taken : (s : Status) (left : Left) → isTaken s ≡ true → unless s c r name area reply left ≡ left
+  unless-taken Taken left h = refl
+  unless-taken Over left h = never h
+  unless-taken LongFrame left h = never h
+  unless-taken SmallReply left h = never h
+  unless-taken WrongLength left h = never h
+
+  unless-refused : (s : Status) (left : Left) → isTaken s ≡ false
+      → unless s c r name area reply left ≡ leftAs (refusedAs c r s) name area reply
+  unless-refused Taken left h = never (sym h)
+  unless-refused Over left h = refl
+  unless-refused LongFrame left h = refl
+  unless-refused SmallReply left h = refl
+  unless-refused WrongLength left h = refl
+
+  pub receive-taken : (chunk : List ℕ) → isTaken (statusOf c area reply) ≡ true
+      → receives c r name chunk area reply ≡ arrives c (r .checked) (reads r chunk) name area reply
+  unfolding receives
+  receive-taken chunk h = unless-taken (statusOf c area reply) (arrives c (r .checked) (reads r chunk) name area reply) h
+
+  pub receive-refused : (chunk : List ℕ) → isTaken (statusOf c area reply) ≡ false
+      → receives c r name chunk area reply ≡ leftAs (refusedAs c r (statusOf c area reply)) name area reply
+  unfolding receives
+  receive-refused chunk h = unless-refused (statusOf c area reply) (arrives c (r .checked) (reads r chunk) name area reply) h
+
+  pub settle-taken : (e : Event) (k : Bool) (s : Step) → isTaken (statusOf c area reply) ≡ true → k ≡ r .checked
+      → ((a p : List ℕ) → reached name (moveBy e (nowBy (currentIn c k) name) a (c .state)) ≡ reachedBy p name s a)
+      → settles e c r name area reply ≡ leaves c r 0 s name area reply
+  unfolding settles
+  settle-taken e k s h q f =
+      unless-taken (statusOf c area reply) (leftBy c r 0 (moveBy e (nowBy (currentIn c (r .checked)) name) area (c .state)) name reply) h
+      ∙ ap (λ (x : Bool). leftBy c r 0 (moveBy e (nowBy (currentIn c x) name) area (c .state)) name reply) (sym q)
+      ∙ left-is c r 0 reply name (moveBy e (nowBy (currentIn c k) name) area (c .state)) s area (f area (r .pending))
+
+  pub settle-refused : (e : Event) → isTaken (statusOf c area reply) ≡ false
+      → settles e c r name area reply ≡ leftAs (refusedAs c r (statusOf c area reply)) name area reply
+  unfolding settles
+  settle-refused e h =
+      unless-refused (statusOf c area reply) (leftBy c r 0 (moveBy e (nowBy (currentIn c (r .checked)) name) area (c .state)) name reply) h

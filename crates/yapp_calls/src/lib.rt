@@ -1,0 +1,152 @@
+// What a call of a YAPP receiver answers and leaves, over numbers, enums and lent buffers.
+use calls::Status;
+use reader::Reader;
+use yapp_steps::ReceiverCore;
+use yapp_steps::Step;
+ghost use mathlib.Core.Path.{_≡_};
+ghost use mathlib.Core.List.{List};
+ghost use lib.ListN.{length};
+ghost use Prim.Native.Nat.{ℕ, _≤_};
+ghost use Rattle.reader.specs.Reader.{receive as reads};
+ghost use Rattle.yapp_steps.specs.Receiving.{currentIn, nowBy, reached, reachedBy};
+ghost use Rattle.yapp_calls.specs.Calls.{coreAt, refusedAs, moveBy, answerBy, nameBy, replyBy, leftAs, arrives, receives, settles};
+
+// An event with which no bytes come.
+pub enum Event {
+    Timer,
+    Stop,
+}
+
+// What a call answers, but for the bytes of the record's name.
+pub struct Answer {
+    pub reader: Reader,
+    pub core: ReceiverCore,
+    pub status: Status,
+    // How many bytes of the chunk were taken.
+    pub taken: usize,
+    // How many bytes of the reply buffer are to be sent.
+    pub sent: usize,
+    // How many bytes were stored in the area.
+    pub stored: usize,
+}
+
+// A refused call changes nothing.
+fn refuse(core: ReceiverCore, reader: Reader, status: Status) -> Answer
+    ensures { λ r. ⌜ r ≡ refusedAs core reader status ⌝ }
+{
+    Answer {
+        reader,
+        core,
+        status,
+        taken: 0,
+        sent: 0,
+        stored: 0,
+    }
+}
+
+// The settings stay.
+fn moved(core: ReceiverCore, step: Step) -> ReceiverCore
+    ensures { λ r. ⌜ r ≡ coreAt core (step .state) (step .keeping) ⌝ }
+{
+    let state = step.state;
+    let keeping = step.keeping;
+    ReceiverCore {
+        state,
+        room: core.room,
+        resumes: core.resumes,
+        checks: core.checks,
+        keeping,
+    }
+}
+
+// Keeps the name, which stands in the pending bytes where it is new, writes the reply, and answers.
+fn finish(
+    core: ReceiverCore,
+    reader: Reader,
+    taken: usize,
+    step: Step,
+    name: &mut [u8],
+    reply: &mut [u8],
+) -> Answer
+    requires { ⌜ 259 ≤ length (now reply) ⌝ }
+    ensures { λ r. ⌜ (r ≡ answerBy core reader taken step) × (now (name .exit) ≡ nameBy reader step (now (name .entry))) × (now (reply .exit) ≡ replyBy step (now (reply .entry))) ⌝ }
+{
+    let out = step.out;
+    let place = step.name;
+    let pending = reader.pending();
+    fields::append_bytes(name, 0, fields::bytes_at(&pending, place));
+    let sent = yapp_replies::put(reply, out, step.checked);
+    Answer {
+        reader: reader.checking(step.checked),
+        core: moved(core, step),
+        status: Status::Taken,
+        taken,
+        sent,
+        stored: step.stored,
+    }
+}
+
+// A call that is taken: reads the chunk, decides, and acts.
+fn arrive(
+    core: ReceiverCore,
+    reader: Reader,
+    name: &mut [u8],
+    chunk: &[u8],
+    area: &mut [u8],
+    reply: &mut [u8],
+) -> Answer
+    requires { ⌜ 259 ≤ length (now reply) ⌝ }
+    ensures { λ r. ⌜ arrives core (reader .checked) (reads reader (now (chunk .entry))) (now (name .entry)) (now (area .entry)) (now (reply .entry)) ≡ leftAs r (now (name .exit)) (now (area .exit)) (now (reply .exit)) ⌝ }
+{
+    let received = reader.receive(chunk);
+    let step = yapp_receiving::take(core, reader.checked(), name, received, area);
+    let found = received.reader;
+    finish(core, found, received.taken, step, name, reply)
+}
+
+// Bytes have arrived.
+pub fn receive(
+    core: ReceiverCore,
+    reader: Reader,
+    name: &mut [u8],
+    chunk: &[u8],
+    area: &mut [u8],
+    reply: &mut [u8],
+) -> Answer
+    ensures { λ r. ⌜ receives core reader (now (name .entry)) (now (chunk .entry)) (now (area .entry)) (now (reply .entry)) ≡ leftAs r (now (name .exit)) (now (area .exit)) (now (reply .exit)) ⌝ }
+{
+    let status = yapp_checks::check(core, area.len(), reply.len());
+    if calls::is_taken(status) {
+        return arrive(core, reader, name, chunk, area, reply);
+    }
+    refuse(core, reader, status)
+}
+
+// The step of timer or operator's stop.
+fn step_of(event: Event, core: ReceiverCore, checked: bool, name: &[u8]) -> Step
+    ensures { λ r. ⌜ ((a p : List ℕ) → reached (now (name .entry)) (moveBy event (nowBy (currentIn core checked) (now (name .entry))) a (core .state)) ≡ reachedBy p (now (name .entry)) r a) ⌝ }
+{
+    match event {
+        Event::Timer => yapp_receiving::time_out(core, checked, name),
+        Event::Stop => yapp_receiving::stop(core, checked, name),
+    }
+}
+
+// Timer or operator's stop.
+pub fn settle(
+    event: Event,
+    core: ReceiverCore,
+    reader: Reader,
+    name: &mut [u8],
+    area: &[u8],
+    reply: &mut [u8],
+) -> Answer
+    ensures { λ r. ⌜ settles event core reader (now (name .entry)) (now (area .entry)) (now (reply .entry)) ≡ leftAs r (now (name .exit)) (now (area .entry)) (now (reply .exit)) ⌝ }
+{
+    let status = yapp_checks::check(core, area.len(), reply.len());
+    if calls::is_taken(status) {
+        let step = step_of(event, core, reader.checked(), name);
+        return finish(core, reader, 0, step, name, reply);
+    }
+    refuse(core, reader, status)
+}

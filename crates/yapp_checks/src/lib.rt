@@ -1,0 +1,88 @@
+// What a YAPP receiver asks before it decides: the record that it begins with, the checks of a call.
+use calls::Entry;
+use calls::Keeping;
+use calls::Outcome;
+use calls::Status;
+use fields::Place;
+use records::Record;
+use records::RecordRead;
+use yapp::ReceiverState;
+use yapp_steps::ReceiverCore;
+ghost use mathlib.Core.Path.{_≡_};
+ghost use Rattle.records.specs.Record.{recordOf};
+ghost use Rattle.calls.specs.Checks.{checkOf};
+ghost use Rattle.yapp.specs.Steps.{receiverEnded};
+ghost use Rattle.yapp_checks.specs.Begun.{begunEnded, begunWith, begunBy};
+
+// How a receiver begins.
+pub struct Begun {
+    pub state: ReceiverState,
+    pub keeping: Keeping,
+    // Where the record's name stands in the record's bytes; of no bytes where there is no record.
+    pub name: Place,
+}
+
+// A beginning that is refused: an end that has ended, with no record.
+fn begin_ended(outcome: Outcome) -> Begun
+    ensures { λ b. ⌜ b ≡ begunEnded outcome ⌝ }
+{
+    let name = Place { start: 0, len: 0 };
+    Begun {
+        state: ReceiverState::Ended { outcome },
+        keeping: Keeping::Nothing,
+        name,
+    }
+}
+
+// From a record; kept over size, or size over area, is 2.
+fn begin_saved(r: Record, bytes: &[u8], room: usize) -> Begun
+    ensures { λ b. ⌜ b ≡ begunWith (now (bytes .entry)) room r ⌝ }
+{
+    let place = r.name;
+    let stamp = r.stamp;
+    if calls::is_within(r.kept, r.size, room) {
+        let name = fields::bytes_at(bytes, place);
+        let entry = Entry {
+            named: name.len(),
+            size: r.size,
+            kept: r.kept,
+            stamp,
+        };
+        return Begun {
+            state: ReceiverState::R,
+            keeping: Keeping::Of(entry),
+            name: place,
+        };
+    }
+    begin_ended(Outcome::RecordOver)
+}
+
+// From a record's bytes; one that is unreadable is 1.
+pub fn begin(bytes: &[u8], room: usize) -> Begun
+    ensures { λ b. ⌜ b ≡ begunBy (now (bytes .entry)) room (recordOf (now (bytes .entry))) ⌝ }
+{
+    let RecordRead::Good(r) = record_reader::record_of(bytes) else {
+        return begin_ended(Outcome::RecordUnreadable);
+    };
+    begin_saved(r, bytes, room)
+}
+
+fn is_ended(state: ReceiverState) -> bool
+    ensures { λ r. ⌜ r ≡ receiverEnded state ⌝ }
+{
+    match state {
+        ReceiverState::R => false,
+        ReceiverState::RH { whole: _ } => false,
+        ReceiverState::RD => false,
+        ReceiverState::CW { outcome: _ } => false,
+        ReceiverState::Ended { outcome: _ } => true,
+    }
+}
+
+// The checks of a call.
+pub fn check(core: ReceiverCore, area: usize, reply: usize) -> Status
+    ensures { λ r. ⌜ r ≡ checkOf (receiverEnded (core .state)) reply 0 area (core .room) ⌝ }
+{
+    let state = core.state;
+    calls::check(is_ended(state), reply, 0, area, core.room)
+}
