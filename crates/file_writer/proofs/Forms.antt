@@ -1,9 +1,9 @@
--- The laws of the forms of HD, DT and RE: for each the ways that it is refused, and its bytes; and how their data are laid into the
+-- The laws of the forms of HD and RE: for each the ways that it is refused, and its bytes; and how their data are laid into the
 -- buffer. Assumes nothing.
 use mathlib.Core.Path.{_≡_, refl, sym, ap}
 use mathlib.Core.Bool.{Bool, true, false}
 use mathlib.Core.List.{List, [], _∷_, _++_, append-assoc, append-nil}
-use Prim.Native.Nat.{ℕ, _+_, _-_, _%_, _≤_, _<_}
+use Prim.Native.Nat.{ℕ, _+_, _≤_, _<_}
 use native.Mathlib.Omega.{arith}
 use lib.ListN.{length, length-append}
 use borrow.Author.Tests.{le-leb, lt-leb}
@@ -15,9 +15,8 @@ use Rattle.fields.specs.Buffer.{over, appended, appendedEnd, formless, bytes}
 use Rattle.numerals.proofs.Writing.{hex-length}
 use Rattle.numbers.proofs.RoundTrip.{decimal-length}
 use Rattle.fields.proofs.Buffer.{Grown, grown-none, grown}
-use Rattle.packets.specs.Packet.{checksum}
 use Rattle.file_writer.specs.Front.{front}
-use Rattle.packets.specs.Content.{stampData, stampFits, headerData, headerForm, blockForm, resumeData, resumeForm}
+use Rattle.packets.specs.Content.{stampData, stampFits, headerData, headerForm, resumeData, resumeForm}
 
 pub laid-grown : {a d e : List ℕ} {n : ℕ} → (n ≡ length a) × (e ≡ over 0 a d) → Grown a d e n
 laid-grown q = record { bytes = q .1; count = q .0 }
@@ -82,26 +81,6 @@ module _ (name : List ℕ) (size : ℕ) (stamp : Stamp) where
       stamp-short : (o : Stamp) → length (stampData o) ≤ 9
       stamp-short (Present v) = simp (length-append, hex-length) (omega arith)
       stamp-short Absent = omega arith
-
--- ---- DT
-
-module _ (checked : Bool) (s : List ℕ) where
-  pub block-none : length s < 1 → blockForm checked s ≡ formless
-  unfolding blockForm
-  block-none h = rw (lt-leb 1 (length s) h)
-
-  pub block-long : 256 < length s → blockForm checked s ≡ formless
-  unfolding blockForm
-  block-long h = rw (le-leb 1 (length s) (omega arith), lt-leb (length s) 256 h)
-
-  module _ (some : 1 ≤ length s) (short : length s ≤ 256) where
-    pub block-checked : checked ≡ true → blockForm checked s ≡ bytes ((2 ∷ length s % 256 ∷ s) ++ (checksum s ∷ []))
-    unfolding blockForm
-    block-checked e = rw (e, le-leb 1 (length s) some, le-leb (length s) 256 short)
-
-    pub block-plain : checked ≡ false → blockForm checked s ≡ bytes (2 ∷ length s % 256 ∷ s)
-    unfolding blockForm
-    block-plain e = rw (e, le-leb 1 (length s) some, le-leb (length s) 256 short) (ap bytes (append-nil (2 ∷ length s % 256 ∷ s)))
 
 -- ---- RE
 

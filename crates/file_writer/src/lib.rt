@@ -1,4 +1,4 @@
-// Writes the YAPP packets of a file: HD, DT and RE. The buffer is one of at least 259 bytes. Every byte behind the packet stays,
+// Writes the YAPP packets that begin a file: HD and RE. The buffer is one of at least 259 bytes. Every byte behind the packet stays,
 // and a refusal leaves all as it was: a buffer under 259 bytes is 20, a packet that has no form is 22.
 use fields::Stamp;
 use fields::Written;
@@ -7,7 +7,7 @@ ghost use mathlib.Core.Bool.{true};
 ghost use Prim.Native.Nat.{_≤_};
 ghost use lib.ListN.{length};
 ghost use Rattle.fields.specs.Buffer.{over, writtenOf, leftOf};
-ghost use Rattle.packets.specs.Content.{stampFits, headerData, headerForm, blockForm, resumeData, resumeForm};
+ghost use Rattle.packets.specs.Content.{stampFits, headerData, headerForm, resumeData, resumeForm};
 ghost use Rattle.file_writer.specs.Front.{front};
 
 // The least reply buffer.
@@ -57,30 +57,6 @@ pub fn write_hd(reply: &mut [u8], name: &[u8], size: u32, stamp: Stamp) -> Writt
     } else {
         Written::Formless
     }
-}
-
-// DT with 1 to 256 bytes, and behind them their checksum in YappC.
-pub fn write_dt(reply: &mut [u8], block: &[u8], checked: bool) -> Written
-    ensures { λ r. ⌜ (r ≡ writtenOf 259 (blockForm checked (now (block .entry))) (now (reply .entry))) × (now (reply .exit) ≡ leftOf 259 (blockForm checked (now (block .entry))) (now (reply .entry))) ⌝ }
-{
-    if reply.len() < LEAST {
-        return Written::Small;
-    }
-    let count = block.len();
-    if count < 1 {
-        return Written::Formless;
-    }
-    if 256 < count {
-        return Written::Formless;
-    }
-    let n = fields::put_bytes(&mut reply[2..], block);
-    reply[1] = (count % 256) as u8;
-    reply[0] = 2;
-    if checked {
-        let end = fields::append_byte(reply, n + 2, packets::checksum(block));
-        return Written::Bytes(end);
-    }
-    Written::Bytes(n + 2)
 }
 
 // Lays `R` 00 position 00, and with checksums `C` 00, over the beginning of room.

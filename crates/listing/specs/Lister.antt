@@ -9,12 +9,11 @@ use Rattle.spans.specs.declared.Span.the-variants.{Open, Whole, Drop}
 use Rattle.packets.specs.declared.Packet.{Packet}
 use Rattle.spans.specs.Span.{sizeOf}
 use Rattle.packets.specs.Content.{contentOf}
-use Rattle.packets.specs.Kind.{partsOf}
 use Rattle.reader.specs.declared.Received.{Received}
 use Rattle.reader.specs.Reader.{fresh, receive}
 use Rattle.listing.specs.declared.Lister.{Lister}
 use Rattle.listing.specs.declared.Listed.{Listed}
-use Rattle.listing.specs.Text.{lineOf, ending}
+use Rattle.listing_lines.specs.Line.{lineOf, ending}
 
 abbrev pub new : Lister
 new = record { reader = fresh false; offset = 0 }
@@ -22,10 +21,6 @@ new = record { reader = fresh false; offset = 0 }
 -- the offset behind n bytes; past 2 ^ 64 it starts from 0 again
 abbrev pub behind : ℕ → ℕ → ℕ
 behind offset n = (offset + n) % 2 ^ 64
-
--- a packet's kind, which does not depend on the bytes at its places
-abbrev pub kindOf : Packet → ℕ
-kindOf p = partsOf (contentOf [] p) .kind
 
 -- the line of a packet or a drop; none while a packet is open
 abbrev pub lineBy : ℕ → Span → Packet → List ℕ

@@ -54,7 +54,7 @@ fn write_block(reply: &mut [u8], source: &[u8], b: Block, checked: bool) -> Writ
 {
     let place = b.place;
     if b.sound {
-        file_writer::write_dt(reply, fields::bytes_at(source, place), checked)
+        block_writer::write_dt(reply, fields::bytes_at(source, place), checked)
     } else {
         write_none(reply)
     }

@@ -44,7 +44,7 @@ fn put_block(block: usize, from: usize, checked: bool, file: &[u8], reply: &mut 
     ensures { λ r. ⌜ (259 ≤ length (now (reply .entry)) → Laid (writes checked (dt (take block (drop from (now (file .entry)))) true ∷ [])) (now (reply .entry)) (now (reply .exit)) r) ⌝ }
 {
     let data = fields::part(file, from, block);
-    calls::count(file_writer::write_dt(reply, data, checked))
+    calls::count(block_writer::write_dt(reply, data, checked))
 }
 
 // A packet that carries nothing.

@@ -1,6 +1,7 @@
 -- `listing::put_found` meets its contract: by the span.
 -- Assumes nothing.
 use mathlib.Core.Path.{refl, sym}
+use native.Mathlib.Omega.{arith}
 use denote.Ref.{now}
 use Rattle.fields.proofs.Buffer.{over-none}
 use borrow.Author.Needs.{needs}
@@ -13,29 +14,29 @@ enum-told c = search needs
 enum-known-found : tie.Need-enum-known-found
 enum-known-found c = search needs
 
+cast-put-packet : tie.Need-cast-put-packet
+cast-put-packet c = let h = rw (c .before .before .found .given .1) at (c .before .before .before .before .pre) in omega (arith, h)
+
 put-packet-requires : tie.Need-put-packet-requires
-put-packet-requires c κs = (c .before .before .before .before .before .pre .0, rw (c .before .before .found .given .1) at (c .before .before .before .before .before .pre .1))
+put-packet-requires c κs = search needs
 
 enum-known-found-2 : tie.Need-enum-known-found-2
 enum-known-found-2 c = search needs
 
+cast-put-packet-2 : tie.Need-cast-put-packet-2
+cast-put-packet-2 c = let h = rw (c .before .before .found2 .given .1) at (c .before .before .before .before .pre) in omega (arith, h)
+
 put-packet-requires-2 : tie.Need-put-packet-requires-2
-put-packet-requires-2 c κs = (c .before .before .before .before .before .pre .0, rw (c .before .before .found2 .given .1) at (c .before .before .before .before .before .pre .1))
+put-packet-requires-2 c κs = search needs
 
 returns : tie.Need-returns
-returns c = rw (c .enum-told .given .1) (refl, sym (over-none (now (c .before .before .before .args .out))))
-
-same-length : tie.Need-same-length
-same-length c = search needs
+returns c = rw (c .enum-told .given .1) (refl, sym (over-none (now (c .before .before .args .out))))
 
 returns-2 : tie.Need-returns-2
-returns-2 c = rw (c .before .before .before .before .before .found .given .1) (c .before .before .put-packet .ensures)
-
-same-length-2 : tie.Need-same-length-2
-same-length-2 c = search needs
+returns-2 c = rw (c .before .before .before .found .given .1) (c .put-packet .ensures)
 
 returns-3 : tie.Need-returns-3
-returns-3 c = rw (c .before .before .before .before .before .found2 .given .1) (c .before .before .put-packet2 .ensures)
+returns-3 c = rw (c .before .before .before .found2 .given .1) (c .put-packet2 .ensures)
 
 pub put-found-spec : {M : Type 1} → statement M
 put-found-spec =
@@ -43,11 +44,11 @@ put-found-spec =
     (tie.spec
     enum-told
     enum-known-found
+    cast-put-packet
     put-packet-requires
     enum-known-found-2
+    cast-put-packet-2
     put-packet-requires-2
     returns
-    same-length
     returns-2
-    same-length-2
     returns-3)

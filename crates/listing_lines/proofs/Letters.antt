@@ -10,7 +10,7 @@ use lib.ListN.{length, length-take}
 use Rattle.fields.specs.Lists.{part, same}
 use Rattle.fields.proofs.Lists.{le-or-lt, eq-or-not, both, same-eq}
 use Rattle.packets.specs.Kind.{look}
-use Rattle.listing.specs.Text.{letters}
+use Rattle.listing_lines.specs.Line.{letters}
 
 abbrev pub table : List ℕ
 table = 82 ∷ 82 ∷ 82 ∷ 70 ∷ 65 ∷ 70 ∷ 65 ∷ 84 ∷ 67 ∷ 65 ∷ 82 ∷ 84 ∷ 83 ∷ 73 ∷ 82 ∷ 73 ∷ 72 ∷ 68 ∷ 68 ∷ 84 ∷ 69 ∷ 70 ∷ 69 ∷ 84 ∷ 78 ∷ 82 ∷ 82 ∷ 69 ∷ 67 ∷ 78 ∷ 84 ∷ 88 ∷ 72 ∷ 68 ∷ 66 ∷ 65 ∷ 68 ∷ 67 ∷ 85 ∷ 84 ∷ []

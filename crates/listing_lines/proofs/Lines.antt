@@ -13,14 +13,14 @@ use Rattle.fields.proofs.Buffer.{Grown, grown-none, grown, grown-is}
 use Rattle.fields.proofs.Lists.{le-or-lt}
 use Rattle.numbers.proofs.RoundTrip.{decimal-length}
 use Rattle.packets.specs.Kind.{partsOf, look}
-use Rattle.listing.specs.Text.{letters, overhead, line, cut, ending}
-use Rattle.listing.proofs.Letters.{short}
+use Rattle.listing_lines.specs.Line.{letters, overhead, line, cut, ending}
+use Rattle.listing_lines.proofs.Letters.{short}
 
 pub digits : (n : ℕ) → n < 2 ^ 64 → length (decimal n) ≤ 20
 digits n h = decimal-length 19 n (omega arith) (omega arith)
 
-pub three-digits : (n : ℕ) → n ≤ 259 → length (decimal n) ≤ 3
-three-digits n h = decimal-length 2 n (omega arith) (omega arith)
+pub five-digits : (n : ℕ) → n < 2 ^ 16 → length (decimal n) ≤ 5
+five-digits n h = decimal-length 4 n (omega arith) (omega arith)
 
 -- one writer at an index
 abbrev pub Step : ℕ → List ℕ → List ℕ → List ℕ → ℕ → Type 0

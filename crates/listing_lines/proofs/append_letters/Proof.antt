@@ -1,11 +1,11 @@
--- `listing::append_letters` meets its contract: by the kind, of which two letters stand in the table, or three.
+-- `listing_lines::append_letters` meets its contract: by the kind, of which two letters stand in the table, or three.
 -- Assumes nothing.
 use mathlib.Core.Path.{_∙_}
-use Rattle.listing.proofs.Letters.{two, three}
+use Rattle.listing_lines.proofs.Letters.{two, three}
 use native.Mathlib.Omega.{arith}
 use borrow.Author.Needs.{needs}
-use Rattle.listing.proofs.append_letters.Statement.{statement}
-use Rattle.listing.proofs.append_letters.Tie as tie
+use Rattle.listing_lines.proofs.append_letters.Statement.{statement}
+use Rattle.listing_lines.proofs.append_letters.Tie as tie
 
 mul-part : tie.Need-mul-part
 mul-part c = search needs

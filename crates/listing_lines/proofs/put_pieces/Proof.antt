@@ -1,11 +1,11 @@
--- `listing::put_ending` meets its contract: the parts of the last lines one behind the other.
+-- `listing_lines::put_pieces` meets its contract: the parts of the last lines one behind the other.
 -- Assumes nothing.
 use native.Mathlib.Omega.{arith}
 use denote.Ref.{now}
-use Rattle.listing.proofs.Lines.{ending-written}
+use Rattle.listing_lines.proofs.Lines.{ending-written}
 use borrow.Author.Needs.{needs}
-use Rattle.listing.proofs.put_ending.Statement.{statement}
-use Rattle.listing.proofs.put_ending.Tie as tie
+use Rattle.listing_lines.proofs.put_pieces.Statement.{statement}
+use Rattle.listing_lines.proofs.put_pieces.Tie as tie
 
 put-cut-requires : tie.Need-put-cut-requires
 put-cut-requires c κs = search needs
@@ -35,8 +35,8 @@ returns c =
     ending-written (a .offset) (a .n) (a .total) (now (a .out)) _ _ _ (x₃ .last .0) _ _ _ (x₃ .result) (omega (arith, fits)) (omega (arith, fits)) (omega (arith, fits)) (c .before .before .before .before .before .before .before .before .before .before .before .before .before .before .before .before .before .before .pre)
     (c .before .before .before .before .before .before .before .before .before .before .before .before .before .before .before .put-cut .ensures) (x₁ .ensures) (x₂ .ensures) (x₃ .ensures)
 
-pub put-ending-spec : {M : Type 1} → statement M
-put-ending-spec =
+pub put-pieces-spec : {M : Type 1} → statement M
+put-pieces-spec =
     tie.close
     (tie.spec
     put-cut-requires

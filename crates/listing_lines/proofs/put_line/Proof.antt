@@ -1,11 +1,11 @@
--- `listing::put_line` meets its contract: the parts of the line one behind the other.
+-- `listing_lines::put_line` meets its contract: the parts of the line one behind the other.
 -- Assumes nothing.
 use native.Mathlib.Omega.{arith}
 use denote.Ref.{now}
-use Rattle.listing.proofs.Lines.{line-written}
+use Rattle.listing_lines.proofs.Lines.{line-written}
 use borrow.Author.Needs.{needs}
-use Rattle.listing.proofs.put_line.Statement.{statement}
-use Rattle.listing.proofs.put_line.Tie as tie
+use Rattle.listing_lines.proofs.put_line.Statement.{statement}
+use Rattle.listing_lines.proofs.put_line.Tie as tie
 
 append-decimal-requires : tie.Need-append-decimal-requires
 append-decimal-requires c κs = search needs

@@ -1,13 +1,13 @@
--- `listing::put_cut` meets its contract: a line where bytes are left.
+-- `listing_lines::put_cut` meets its contract: a line where bytes are left.
 -- Assumes nothing.
 use native.Mathlib.Omega.{arith}
 use mathlib.Core.Path.{refl, sym}
 use denote.Ref.{now}
 use Rattle.fields.proofs.Buffer.{over-none}
-use Rattle.listing.proofs.Lines.{digits, cut-none, cut-some}
+use Rattle.listing_lines.proofs.Lines.{digits, cut-none, cut-some}
 use borrow.Author.Needs.{needs}
-use Rattle.listing.proofs.put_cut.Statement.{statement}
-use Rattle.listing.proofs.put_cut.Tie as tie
+use Rattle.listing_lines.proofs.put_cut.Statement.{statement}
+use Rattle.listing_lines.proofs.put_cut.Tie as tie
 
 returns : tie.Need-returns
 returns c =

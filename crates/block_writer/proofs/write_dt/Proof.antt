@@ -9,10 +9,10 @@ use Rattle.fields.proofs.Buffer.{Grown, grown, small, refused, written}
 use Rattle.packets.specs.Packet.{checksum}
 use Rattle.packets.specs.Content.{blockForm}
 use Rattle.text_writer.proofs.Leads.{lent, leads}
-use Rattle.file_writer.proofs.Forms.{block-none, block-long, block-checked, block-plain}
+use Rattle.block_writer.proofs.Forms.{block-none, block-long, block-checked, block-plain}
 use borrow.Author.Needs.{needs}
-use Rattle.file_writer.proofs.write_dt.Statement.{statement}
-use Rattle.file_writer.proofs.write_dt.Tie as tie
+use Rattle.block_writer.proofs.write_dt.Statement.{statement}
+use Rattle.block_writer.proofs.write_dt.Tie as tie
 
 -- the buffer after the two stores
 abbrev stored : tie.After-slice-known2 → List ℕ

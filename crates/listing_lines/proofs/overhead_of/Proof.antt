@@ -1,10 +1,10 @@
--- `listing::overhead_of` meets its contract: by the kind.
+-- `listing_lines::overhead_of` meets its contract: by the kind.
 -- Assumes nothing.
 use borrow.Author.Tests.{ne-eqb}
 use Rattle.packets.specs.Kind.{look}
-use Rattle.listing.specs.Text.{overhead}
-use Rattle.listing.proofs.overhead_of.Statement.{statement}
-use Rattle.listing.proofs.overhead_of.Tie as tie
+use Rattle.listing_lines.specs.Line.{overhead}
+use Rattle.listing_lines.proofs.overhead_of.Statement.{statement}
+use Rattle.listing_lines.proofs.overhead_of.Tie as tie
 
 returns : tie.Need-returns
 unfolding overhead look
