@@ -48,7 +48,7 @@ fn finish(step: Step, shown: Place, name: &mut [u8], frame: &[u8], reply: &mut [
     let out = step.out;
     let place = step.name;
     let next = fields::bytes_at(frame, place);
-    fields::append_bytes(name, 0, next);
+    buffers::append_bytes(name, 0, next);
     let sent = bin_replies::put(reply, out, next);
     Answer {
         status: Status::Taken,

@@ -78,7 +78,7 @@ fn put_data(block: usize, file: &[u8], from: usize, reply: &mut [u8]) -> usize
     requires { ⌜ 259 ≤ length (now reply) ⌝ }
     ensures { λ r. ⌜ (r ≡ length (cutOf (blockOf block) (drop from (now (file .entry))))) × (now (reply .exit) ≡ over 0 (cutOf (blockOf block) (drop from (now (file .entry)))) (now (reply .entry))) ⌝ }
 {
-    fields::append_bytes(reply, 0, next(block, file, from))
+    buffers::append_bytes(reply, 0, next(block, file, from))
 }
 
 // The stop frame.

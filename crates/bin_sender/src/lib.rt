@@ -44,7 +44,7 @@ fn sender_with(
     ensures { λ r. ⌜ r ≡ senderWith state announce (now (name .entry)) size block ⌝ }
 {
     let mut own = [0; 64];
-    fields::append_bytes(&mut own, 0, name);
+    buffers::append_bytes(&mut own, 0, name);
     Sender {
         name: own,
         core: SenderCore {
@@ -130,7 +130,7 @@ impl Sender {
     pub fn begin(name: &[u8], size: usize, block: usize, stamp: u32, resumes: bool) -> Self
         ensures { λ r. ⌜ r ≡ beginOf (now (name .entry)) size block stamp resumes ⌝ }
     {
-        if fields::is_name(name) {
+        if names::is_name(name) {
             return within(Announce::Extended { stamp, resumes }, name, size, block);
         }
         refused_begin(Outcome::NameOutside)

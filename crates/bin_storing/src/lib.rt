@@ -31,7 +31,7 @@ fn store(crc: u16, entry: Entry, frame: &[u8], area: &mut [u8]) -> Step
     let n = frame.len();
     if fits(from, n, entry.size) {
         let at = from as usize;
-        fields::append_bytes(area, at, frame);
+        buffers::append_bytes(area, at, frame);
         let next = Entry {
             named: entry.named,
             size: entry.size,
@@ -59,7 +59,7 @@ fn store_basic(size: u32, kept: u32, keeping: Keeping, frame: &[u8], area: &mut 
 {
     let n = frame.len();
     if fits(kept, n, size) {
-        fields::append_bytes(area, kept as usize, frame);
+        buffers::append_bytes(area, kept as usize, frame);
         return bin_steps::basic_at(size, kept + n as u32, keeping, Out::Silent, n);
     }
     bin_steps::end(Outcome::PastSize, keeping, Out::Stop, 0)

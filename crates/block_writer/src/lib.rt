@@ -22,11 +22,11 @@ pub fn write_dt(reply: &mut [u8], block: &[u8], checked: bool) -> Written
     if 256 < count {
         return Written::Formless;
     }
-    let n = fields::put_bytes(&mut reply[2..], block);
+    let n = buffers::put_bytes(&mut reply[2..], block);
     reply[1] = (count % 256) as u8;
     reply[0] = 2;
     if checked {
-        let end = fields::append_byte(reply, n + 2, packets::checksum(block));
+        let end = buffers::append_byte(reply, n + 2, packets::checksum(block));
         return Written::Bytes(end);
     }
     Written::Bytes(n + 2)

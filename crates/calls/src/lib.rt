@@ -171,7 +171,7 @@ pub fn matches(entry: Entry, held: &[u8], name: &[u8], size: u32) -> bool
     ensures { λ r. ⌜ r ≡ matchesOf entry (now (held .entry)) (now (name .entry)) size ⌝ }
 {
     let named = entry.named;
-    if fields::same(fields::part(held, 0, named), name) {
+    if names::same(fields::part(held, 0, named), name) {
         return entry.size == size;
     }
     false

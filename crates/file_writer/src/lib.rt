@@ -18,10 +18,10 @@ fn put_front(room: &mut [u8], a: &[u8], n: u32) -> usize
     requires { ⌜ (length (now a) ≤ 64) × (n ≤ 99999999) × (257 ≤ length (now room)) ⌝ }
     ensures { λ r. ⌜ (r ≡ length (front (now (a .entry)) n)) × (now (room .exit) ≡ over 0 (front (now (a .entry)) n) (now (room .entry))) ⌝ }
 {
-    let named = fields::append_bytes(room, 0, a);
-    let at = fields::append_byte(room, named, 0);
+    let named = buffers::append_bytes(room, 0, a);
+    let at = buffers::append_byte(room, named, 0);
     let sized = numerals::append_decimal(room, at, n as u64);
-    fields::append_byte(room, sized, 0)
+    buffers::append_byte(room, sized, 0)
 }
 
 // Lays name 00 size 00 option over the beginning of room.
@@ -33,7 +33,7 @@ fn put_header(room: &mut [u8], name: &[u8], size: u32, stamp: Stamp) -> usize
     match stamp {
         Stamp::Present(v) => {
             let stamped = numerals::append_hex(room, next, v);
-            fields::append_byte(room, stamped, 0)
+            buffers::append_byte(room, stamped, 0)
         }
         Stamp::Absent => next,
     }
@@ -46,7 +46,7 @@ pub fn write_hd(reply: &mut [u8], name: &[u8], size: u32, stamp: Stamp) -> Writt
     if reply.len() < LEAST {
         return Written::Small;
     }
-    if fields::is_name(name) {
+    if names::is_name(name) {
         if 99_999_999 < size {
             return Written::Formless;
         }
@@ -66,8 +66,8 @@ fn put_resume(room: &mut [u8], position: u32, checked: bool) -> usize
 {
     let next = put_front(room, b"R", position);
     if checked {
-        let mode = fields::append_byte(room, next, b'C');
-        return fields::append_byte(room, mode, 0);
+        let mode = buffers::append_byte(room, next, b'C');
+        return buffers::append_byte(room, mode, 0);
     }
     next
 }

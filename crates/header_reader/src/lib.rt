@@ -47,7 +47,7 @@ fn header_read(d: &[u8]) -> HeaderRead
 {
     let k = fields::find(d, 0);
     if k < d.len() {
-        if fields::is_name(&d[..k]) {
+        if names::is_name(&d[..k]) {
             let at = k + 1;
             return header_size(k, &d[at..]);
         }

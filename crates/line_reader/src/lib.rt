@@ -101,7 +101,7 @@ fn is_marked(t: &[u8], x: u8) -> bool
 fn line_name(end: usize, size: u32, crc: u16, stamp: u32, resumable: bool, t: &[u8]) -> Frame
     ensures { λ r. ⌜ r ≡ lineName end size crc stamp resumable (now (t .entry)) ⌝ }
 {
-    if fields::is_name(t) {
+    if names::is_name(t) {
         let name = Place {
             start: less(end, t.len()),
             len: t.len(),
@@ -216,7 +216,7 @@ fn ok_name(t: &[u8]) -> Frame
     if t.len() == 0 {
         return Frame::OK;
     }
-    if fields::is_name(t) {
+    if names::is_name(t) {
         let name = Place {
             start: 4,
             len: t.len(),
@@ -232,7 +232,7 @@ fn ok_read(t: &[u8]) -> Frame
 {
     if has_hash(t) {
         let name = before(t);
-        if fields::is_name(name) {
+        if names::is_name(name) {
             return ok_kept(name.len(), behind(t));
         }
         return Frame::MalformedOK;

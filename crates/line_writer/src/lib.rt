@@ -17,9 +17,9 @@ fn put_basic(reply: &mut [u8], size: u32) -> usize
     requires { ⌜ (size ≤ 99999999) × (259 ≤ length (now reply)) ⌝ }
     ensures { λ r. ⌜ (r ≡ length (basicBytes (decimal size))) × (now (reply .exit) ≡ over 0 (basicBytes (decimal size)) (now (reply .entry))) ⌝ }
 {
-    let start = fields::append_bytes(reply, 0, b"#BIN#");
+    let start = buffers::append_bytes(reply, 0, b"#BIN#");
     let sized = numerals::append_decimal(reply, start, size as u64);
-    fields::append_byte(reply, sized, 13)
+    buffers::append_byte(reply, sized, 13)
 }
 
 // A basic line: the size.
@@ -41,7 +41,7 @@ fn append_resume(buf: &mut [u8], at: usize, resumable: bool) -> usize
     ensures { λ r. ⌜ (r ≡ appendedEnd at (resumeMark resumable) (now (buf .entry))) × (now (buf .exit) ≡ appended at (resumeMark resumable) (now (buf .entry))) ⌝ }
 {
     if resumable {
-        return fields::append_byte(buf, at, b'?');
+        return buffers::append_byte(buf, at, b'?');
     }
     at
 }
@@ -51,11 +51,11 @@ fn put_head(reply: &mut [u8], size: u32, crc: u16, stamp: u32) -> usize
     requires { ⌜ (size ≤ 99999999) × (259 ≤ length (now reply)) ⌝ }
     ensures { λ r. ⌜ (r ≡ length (lineHead (decimal size) (decimal crc) (hex 8 stamp))) × (now (reply .exit) ≡ over 0 (lineHead (decimal size) (decimal crc) (hex 8 stamp)) (now (reply .entry))) ⌝ }
 {
-    let mark = fields::append_bytes(reply, 0, b"#BIN#");
+    let mark = buffers::append_bytes(reply, 0, b"#BIN#");
     let size_end = numerals::append_decimal(reply, mark, size as u64);
-    let crc_start = fields::append_bytes(reply, size_end, b"#|");
+    let crc_start = buffers::append_bytes(reply, size_end, b"#|");
     let crc_end = numerals::append_decimal(reply, crc_start, crc as u64);
-    let stamp_start = fields::append_bytes(reply, crc_end, b"#$");
+    let stamp_start = buffers::append_bytes(reply, crc_end, b"#$");
     numerals::append_hex(reply, stamp_start, stamp)
 }
 
@@ -73,9 +73,9 @@ fn put_line(
 {
     let head = put_head(reply, size, crc, stamp);
     let resume = append_resume(reply, head, resumable);
-    let name_start = fields::append_byte(reply, resume, b'#');
-    let name_end = fields::append_bytes(reply, name_start, name);
-    fields::append_byte(reply, name_end, 13)
+    let name_start = buffers::append_byte(reply, resume, b'#');
+    let name_end = buffers::append_bytes(reply, name_start, name);
+    buffers::append_byte(reply, name_end, 13)
 }
 
 // An extended line.
@@ -95,7 +95,7 @@ pub fn write_line(
     if 99_999_999 < size {
         return Written::Formless;
     }
-    if fields::is_name(name) {
+    if names::is_name(name) {
         let n = put_line(reply, size, crc, stamp, resumable, name);
         return Written::Bytes(n);
     }

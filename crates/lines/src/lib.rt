@@ -47,14 +47,14 @@ pub enum Frame {
 pub fn starts(mark: &[u8], b: &[u8]) -> bool
     ensures { λ r. ⌜ r ≡ startsOf (now (mark .entry)) (now (b .entry)) ⌝ }
 {
-    fields::same(mark, fields::part(b, 0, mark.len()))
+    names::same(mark, fields::part(b, 0, mark.len()))
 }
 
 // Whether the whole frame is the stop frame.
 pub fn is_stop(b: &[u8]) -> bool
     ensures { λ r. ⌜ r ≡ sameOf stopFrame (now (b .entry)) ⌝ }
 {
-    fields::same(b"\r#ABORT#\r", b)
+    names::same(b"\r#ABORT#\r", b)
 }
 
 // Whether the frame is for display.

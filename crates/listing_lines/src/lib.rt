@@ -63,9 +63,9 @@ fn append_letters(out: &mut [u8], at: usize, kind: usize) -> usize
 {
     let table = b"RRRFAFATCARTSIRIHDDTEFETNRRECNTXHDBADCUT";
     if kind < 17 {
-        return fields::append_bytes(out, at, fields::part(table, 2 * kind, 2));
+        return buffers::append_bytes(out, at, fields::part(table, 2 * kind, 2));
     }
-    fields::append_bytes(out, at, fields::part(table, 3 * kind - 17, 3))
+    buffers::append_bytes(out, at, fields::part(table, 3 * kind - 17, 3))
 }
 
 // Writes a line to the front of the buffer.
@@ -74,11 +74,11 @@ fn put_line(out: &mut [u8], offset: u64, kind: usize, count: usize) -> usize
     ensures { λ r. ⌜ (r ≡ length (line offset (letters kind) count)) × (now (out .exit) ≡ over 0 (line offset (letters kind) count) (now (out .entry))) ⌝ }
 {
     let a = numerals::append_decimal(out, 0, offset);
-    let b = fields::append_byte(out, a, b' ');
+    let b = buffers::append_byte(out, a, b' ');
     let c = append_letters(out, b, kind);
-    let d = fields::append_byte(out, c, b' ');
+    let d = buffers::append_byte(out, c, b' ');
     let e = numerals::append_decimal(out, d, count as u64);
-    fields::append_byte(out, e, b'\n')
+    buffers::append_byte(out, e, b'\n')
 }
 
 // Writes the line of a packet or a drop of this many bytes.
@@ -107,9 +107,9 @@ fn put_pieces(out: &mut [u8], offset: u64, n: usize, total: u64) -> usize
     ensures { λ r. ⌜ (r ≡ length (ending offset n total)) × (now (out .exit) ≡ over 0 (ending offset n total) (now (out .entry))) ⌝ }
 {
     let at = put_cut(out, offset, n);
-    let a = fields::append_bytes(out, at, b"end ");
+    let a = buffers::append_bytes(out, at, b"end ");
     let b = numerals::append_decimal(out, a, total);
-    fields::append_byte(out, b, b'\n')
+    buffers::append_byte(out, b, b'\n')
 }
 
 // Writes the last lines.

@@ -17,9 +17,9 @@ fn put_ok(reply: &mut [u8], name: &[u8]) -> usize
     requires { ⌜ (length (now name) ≤ 64) × (259 ≤ length (now reply)) ⌝ }
     ensures { λ r. ⌜ (r ≡ length (okBytes (now (name .entry)))) × (now (reply .exit) ≡ over 0 (okBytes (now (name .entry))) (now (reply .entry))) ⌝ }
 {
-    let start = fields::append_bytes(reply, 0, b"#OK#");
-    let named = fields::append_bytes(reply, start, name);
-    fields::append_byte(reply, named, 13)
+    let start = buffers::append_bytes(reply, 0, b"#OK#");
+    let named = buffers::append_bytes(reply, start, name);
+    buffers::append_byte(reply, named, 13)
 }
 
 // The first OK.
@@ -29,7 +29,7 @@ pub fn write_ok(reply: &mut [u8]) -> Written
     if reply.len() < LEAST {
         return Written::Small;
     }
-    let n = fields::append_bytes(reply, 0, b"#OK#\r");
+    let n = buffers::append_bytes(reply, 0, b"#OK#\r");
     Written::Bytes(n)
 }
 
@@ -40,7 +40,7 @@ pub fn write_ok_name(reply: &mut [u8], name: &[u8]) -> Written
     if reply.len() < LEAST {
         return Written::Small;
     }
-    if fields::is_name(name) {
+    if names::is_name(name) {
         let n = put_ok(reply, name);
         return Written::Bytes(n);
     }
@@ -52,13 +52,13 @@ fn put_kept(reply: &mut [u8], name: &[u8], kept: u32, crc: u16) -> usize
     requires { ⌜ (kept ≤ 99999999) × (length (now name) ≤ 64) × (259 ≤ length (now reply)) ⌝ }
     ensures { λ r. ⌜ (r ≡ length (keptBytes (now (name .entry)) (decimal kept) (decimal crc))) × (now (reply .exit) ≡ over 0 (keptBytes (now (name .entry)) (decimal kept) (decimal crc)) (now (reply .entry))) ⌝ }
 {
-    let mark = fields::append_bytes(reply, 0, b"#OK#");
-    let name_end = fields::append_bytes(reply, mark, name);
-    let kept_start = fields::append_bytes(reply, name_end, b"#$");
+    let mark = buffers::append_bytes(reply, 0, b"#OK#");
+    let name_end = buffers::append_bytes(reply, mark, name);
+    let kept_start = buffers::append_bytes(reply, name_end, b"#$");
     let kept_end = numerals::append_decimal(reply, kept_start, kept as u64);
-    let crc_start = fields::append_byte(reply, kept_end, b'#');
+    let crc_start = buffers::append_byte(reply, kept_end, b'#');
     let crc_end = numerals::append_decimal(reply, crc_start, crc as u64);
-    fields::append_byte(reply, crc_end, 13)
+    buffers::append_byte(reply, crc_end, 13)
 }
 
 // The third OK: the name, how many bytes are kept, and their CRC.
@@ -71,7 +71,7 @@ pub fn write_ok_kept(reply: &mut [u8], name: &[u8], kept: u32, crc: u16) -> Writ
     if 99_999_999 < kept {
         return Written::Formless;
     }
-    if fields::is_name(name) {
+    if names::is_name(name) {
         let n = put_kept(reply, name, kept, crc);
         return Written::Bytes(n);
     }

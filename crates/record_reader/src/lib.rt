@@ -27,7 +27,7 @@ fn named_at(b: &[u8], at: usize, stamp: Stamp) -> RecordRead
     let len = number_at(b, at, 1) as usize;
     let start = at + 1;
     if start + len == b.len() {
-        if fields::is_name(fields::part(b, start, len)) {
+        if names::is_name(fields::part(b, start, len)) {
             let size = number_at(b, 4, 4);
             if size <= 99_999_999 {
                 let kept = number_at(b, 8, 4);

@@ -50,7 +50,7 @@ fn put_record(buf: &mut [u8], name: &[u8], size: u32, kept: u32, stamp: Stamp) -
     let held = numerals::append_little(buf, sized, 4, kept);
     let stamped = append_stamp(buf, held, stamp);
     let named = numerals::append_little(buf, stamped, 1, name.len() as u32);
-    fields::append_bytes(buf, named, name)
+    buffers::append_bytes(buf, named, name)
 }
 
 // Writes the record of a name, a size, a kept count and a stamp. A buffer under 81 bytes is 20, a name or size outside the
@@ -61,7 +61,7 @@ pub fn write(buf: &mut [u8], name: &[u8], size: u32, kept: u32, stamp: Stamp) ->
     if buf.len() < 81 {
         return Written::Small;
     }
-    if fields::is_name(name) {
+    if names::is_name(name) {
         if 99_999_999 < size {
             return Written::Formless;
         }

@@ -16,9 +16,9 @@ fn put_no(reply: &mut [u8], text: &[u8]) -> usize
     requires { ⌜ (length (now text) ≤ 80) × (259 ≤ length (now reply)) ⌝ }
     ensures { λ r. ⌜ (r ≡ length (noBytes (now (text .entry)))) × (now (reply .exit) ≡ over 0 (noBytes (now (text .entry))) (now (reply .entry))) ⌝ }
 {
-    let start = fields::append_bytes(reply, 0, b"#NO#");
-    let text_end = fields::append_bytes(reply, start, text);
-    fields::append_byte(reply, text_end, 13)
+    let start = buffers::append_bytes(reply, 0, b"#NO#");
+    let text_end = buffers::append_bytes(reply, start, text);
+    buffers::append_byte(reply, text_end, 13)
 }
 
 // A refusal, with at most 80 bytes of text.
@@ -42,6 +42,6 @@ pub fn write_stop(reply: &mut [u8]) -> Written
     if reply.len() < LEAST {
         return Written::Small;
     }
-    let n = fields::append_bytes(reply, 0, b"\r#ABORT#\r");
+    let n = buffers::append_bytes(reply, 0, b"\r#ABORT#\r");
     Written::Bytes(n)
 }

@@ -174,19 +174,19 @@ fn kept(s: Saved) -> usize
 // Whether the area is the file's first bytes, and behind them what it was.
 fn holds(area: [u8; 32], file: &[u8], count: usize) -> bool {
     let mut want = [0xEE; 32];
-    fields::append_bytes(&mut want, 0, fields::part(file, 0, count));
-    fields::same(&area, &want)
+    buffers::append_bytes(&mut want, 0, fields::part(file, 0, count));
+    names::same(&area, &want)
 }
 
 // Whether the record is that of the file but for the kept count.
 fn is_of_file(s: Saved) -> bool {
     let bytes = s.bytes;
     let record = fields::part(&bytes, 0, s.len);
-    if fields::same(
+    if names::same(
         fields::part(record, 0, 8),
         b"\x16\x00\x02\x00\x14\x00\x00\x00",
     ) {
-        return fields::same(fields::part(record, 12, 81), b"\x00\x48\x21\x5A\x07abc.txt");
+        return names::same(fields::part(record, 12, 81), b"\x00\x48\x21\x5A\x07abc.txt");
     }
     false
 }

@@ -66,7 +66,7 @@ fn word(line: &[u8], number: usize) -> &[u8] {
 // Whether the word with this number is this byte.
 fn has(line: &[u8], number: usize, byte: u8) -> bool {
     let one = [byte];
-    fields::same(word(line, number), &one)
+    names::same(word(line, number), &one)
 }
 
 fn value(s: &[u8]) -> usize
@@ -134,7 +134,7 @@ fn decode(s: &[u8], out: &mut [u8]) -> usize {
     let mut i = 0;
     let mut n = 0;
     while i < s.len() {
-        n = fields::append_byte(out, n, byte_of(fields::part(s, i, 4)));
+        n = buffers::append_byte(out, n, byte_of(fields::part(s, i, 4)));
         i = next(s, i);
     }
     n
@@ -145,7 +145,7 @@ fn place_in(words: &[u8], line: &[u8]) -> usize {
     let first = word(line, 0);
     let mut i: usize = 0;
     while i < 7 {
-        if fields::same(word(words, i), first) {
+        if names::same(word(words, i), first) {
             return i;
         }
         i += 1;
@@ -160,7 +160,7 @@ fn call_of(line: &[u8]) -> usize {
 
 // Whether the reply buffer is to have 258 bytes.
 fn is_small(line: &[u8]) -> bool {
-    fields::same(word(line, 0), b"258")
+    names::same(word(line, 0), b"258")
 }
 
 // ---- The receiver
@@ -186,7 +186,7 @@ fn fresh(line: &[u8]) -> Receiver {
 
 fn fill(area: &mut [u8]) {
     let filled = [0xEE; 32];
-    fields::append_bytes(area, 0, &filled);
+    buffers::append_bytes(area, 0, &filled);
 }
 
 fn begin(call: usize, line: &[u8], area: &mut [u8]) -> Receiver {
@@ -259,7 +259,7 @@ fn heard(m: Receiver, call: usize, text: &[u8], area: &mut [u8], reply: &mut [u8
 
 fn hand(m: Receiver, call: usize, text: &[u8], area: &mut [u8], reply: &mut [u8]) -> Receiver {
     let mut old = [0u8; 32];
-    fields::append_bytes(&mut old, 0, area);
+    buffers::append_bytes(&mut old, 0, area);
     let next = heard(m, call, text, area, reply);
     put_stored(b"; area", &old, area);
     next

@@ -75,7 +75,7 @@ fn differs_to(a: &[u8], b: &[u8]) -> usize {
 // Where after is not before, byte by byte.
 pub fn put_change(label: &[u8], before: &[u8], after: &[u8]) {
     put(label);
-    if fields::same(before, after) {
+    if names::same(before, after) {
         put(b" untouched");
         return;
     }
@@ -86,7 +86,7 @@ pub fn put_change(label: &[u8], before: &[u8], after: &[u8]) {
 // The same, and the bytes that stand there now.
 pub fn put_stored(label: &[u8], before: &[u8], after: &[u8]) {
     put_change(label, before, after);
-    if fields::same(before, after) {
+    if names::same(before, after) {
         return;
     }
     let all = fields::part(after, 0, differs_to(before, after));

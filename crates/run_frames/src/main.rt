@@ -114,10 +114,10 @@ fn is_whole(e: Ends, file: &[u8]) -> bool {
     let s = e.sender;
     let r = e.receiver;
     let mut want = [0xEE; 32];
-    fields::append_bytes(&mut want, 0, file);
+    buffers::append_bytes(&mut want, 0, file);
     if is_sent(s.state()) {
         if is_received(r.state()) {
-            return fields::same(&area, &want);
+            return names::same(&area, &want);
         }
     }
     false

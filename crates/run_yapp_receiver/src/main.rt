@@ -99,7 +99,7 @@ fn differs_to(a: &[u8], b: &[u8]) -> usize {
 // Where after is not before.
 fn put_change(label: &[u8], before: &[u8], after: &[u8]) {
     put(label);
-    if fields::same(before, after) {
+    if names::same(before, after) {
         put(b" untouched");
         return;
     }
@@ -261,7 +261,7 @@ fn decode(s: &[u8], out: &mut [u8]) -> usize {
     let mut i = 0;
     let mut n = 0;
     while i < s.len() {
-        n = fields::append_byte(out, n, byte_of(fields::part(s, i, 4)));
+        n = buffers::append_byte(out, n, byte_of(fields::part(s, i, 4)));
         i = next(s, i);
     }
     n
@@ -269,16 +269,16 @@ fn decode(s: &[u8], out: &mut [u8]) -> usize {
 
 // Which call the word names: 1 to 4; 0 where it names none.
 fn call_of(s: &[u8]) -> u8 {
-    if fields::same(s, b"leave") {
+    if names::same(s, b"leave") {
         return 1;
     }
-    if fields::same(s, b"bytes") {
+    if names::same(s, b"bytes") {
         return 2;
     }
-    if fields::same(s, b"timer") {
+    if names::same(s, b"timer") {
         return 3;
     }
-    if fields::same(s, b"stop") {
+    if names::same(s, b"stop") {
         return 4;
     }
     0
@@ -290,8 +290,8 @@ fn resume_from(bytes: &[u8], line: &[u8]) -> Receiver {
     Receiver::resume(
         bytes,
         number(word(line, 2)),
-        fields::same(word(line, 3), b"?"),
-        fields::same(word(line, 4), b"C"),
+        names::same(word(line, 3), b"?"),
+        names::same(word(line, 4), b"C"),
     )
 }
 
@@ -304,8 +304,8 @@ fn begin_resume(line: &[u8]) -> Receiver {
 fn begin_fresh(line: &[u8]) -> Receiver {
     Receiver::fresh(
         number(word(line, 1)),
-        fields::same(word(line, 2), b"?"),
-        fields::same(word(line, 3), b"C"),
+        names::same(word(line, 2), b"?"),
+        names::same(word(line, 3), b"C"),
     )
 }
 
@@ -318,10 +318,10 @@ fn begun(receiver: Receiver, area: [u8; 320]) -> Play {
 // A line that is no call.
 fn begin(p: Play, first: &[u8], line: &[u8]) -> Play {
     let area = p.area;
-    if fields::same(first, b"fresh") {
+    if names::same(first, b"fresh") {
         return begun(begin_fresh(line), [0xEE; 320]);
     }
-    if fields::same(first, b"resume") {
+    if names::same(first, b"resume") {
         return begun(begin_resume(line), area);
     }
     p
@@ -436,10 +436,10 @@ fn put_record(m: Receiver) {
 
 fn act(p: Play, line: &[u8]) -> Play {
     put(line);
-    if fields::same(word(line, 0), b"258") {
+    if names::same(word(line, 0), b"258") {
         return turn_258(p, fields::part(line, 4, line.len()));
     }
-    if fields::same(line, b"record") {
+    if names::same(line, b"record") {
         put_record(p.receiver);
         return p;
     }

@@ -20,7 +20,7 @@ fn write_counted(reply: &mut [u8], first: u8, text: &[u8]) -> Written
     if 255 < text.len() {
         return Written::Formless;
     }
-    let n = fields::put_bytes(&mut reply[2..], text);
+    let n = buffers::put_bytes(&mut reply[2..], text);
     reply[1] = n as u8;
     reply[0] = first;
     Written::Bytes(n + 2)
@@ -73,7 +73,7 @@ pub fn write_ri(reply: &mut [u8], filespec: &[u8]) -> Written
     if 255 < filespec.len() {
         return Written::Formless;
     }
-    let n = fields::put_bytes(&mut reply[3..], filespec);
+    let n = buffers::put_bytes(&mut reply[3..], filespec);
     reply[2] = n as u8;
     reply[1] = 2;
     reply[0] = 5;

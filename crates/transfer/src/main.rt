@@ -191,7 +191,7 @@ fn print_title(own: Way, name: &[u8], size: usize) {
 }
 
 fn print_compared(area: &[u8], file: &[u8]) {
-    if fields::same(fields::part(area, 0, file.len()), file) {
+    if names::same(fields::part(area, 0, file.len()), file) {
         return put(b"the area equals the file\n");
     }
     put(b"THE AREA DIFFERS FROM THE FILE\n");
@@ -240,7 +240,7 @@ fn try_all(path: &[u8], seed: u64, file: &[u8]) {
     if LARGEST < file.len() {
         return say(b": over 1048576 bytes\n", path);
     }
-    if fields::is_name(name) {
+    if names::is_name(name) {
         return all_ways(name, seed, file);
     }
     say(b": not a name that a header can carry\n", path)

@@ -74,7 +74,7 @@ fn finish(
     let out = step.out;
     let place = step.name;
     let pending = reader.pending();
-    fields::append_bytes(name, 0, fields::bytes_at(&pending, place));
+    buffers::append_bytes(name, 0, fields::bytes_at(&pending, place));
     let sent = yapp_replies::put(reply, out, step.checked);
     Answer {
         reader: reader.checking(step.checked),

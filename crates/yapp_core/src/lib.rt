@@ -79,7 +79,7 @@ fn within(named: usize, size: usize, block: usize, stamp: Stamp, resumes: bool) 
 pub fn begins(name: &[u8], size: usize, block: usize, stamp: Stamp, resumes: bool) -> SenderCore
     ensures { λ r. ⌜ r ≡ begunWithin (now (name .entry)) size block (begunCore (length (now (name .entry))) size block stamp resumes) refusedCore ⌝ }
 {
-    if fields::is_name(name) {
+    if names::is_name(name) {
         return within(name.len(), size, block, stamp, resumes);
     }
     refused(Outcome::NameOutside)

@@ -173,7 +173,7 @@ impl Sender {
     {
         let core = yapp_core::begins(name, size, block, stamp, resumes);
         let mut own = [0; 64];
-        fields::append_bytes(&mut own, 0, fields::part(name, 0, core.named));
+        buffers::append_bytes(&mut own, 0, fields::part(name, 0, core.named));
         Sender {
             reader: Reader::new(false),
             name: own,

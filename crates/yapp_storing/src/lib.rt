@@ -87,7 +87,7 @@ fn store(current: Current, name: &[u8], bytes: &[u8], area: &mut [u8]) -> Step
     if ((size - kept) as usize) < n {
         return yapp_steps::fail(current, name, Outcome::PastSize);
     }
-    fields::append_bytes(area, kept as usize, bytes);
+    buffers::append_bytes(area, kept as usize, bytes);
     grow(current, name, kept + n as u32, n)
 }
 

@@ -7,7 +7,7 @@ use Rattle.yapp_calls.proofs.finish.Statement.{statement}
 use Rattle.yapp_calls.proofs.finish.Tie as tie
 use Rattle.yapp_calls.proofs.finish.Reads as reads
 use Rattle.yapp_calls.proofs.finish.Lts as lts
-use Rattle.fields.proofs.append_bytes.Reads as append-bytes-reads
+use Rattle.buffers.proofs.append_bytes.Reads as append-bytes-reads
 use Rattle.fields.proofs.bytes_at.Reads as bytes-at-reads
 use Rattle.reader.proofs.Reader.checking.Reads as checking-reads
 use Rattle.reader.proofs.Reader.pending.Reads as pending-reads

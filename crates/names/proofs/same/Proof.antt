@@ -6,10 +6,10 @@ use Prim.Native.Nat.{_-_, _≤_}
 use denote.Ref.{now}
 use lib.ListN.{length, drop}
 use borrow.Author.Needs.{needs}
 use Rattle.fields.specs.Lists.{same}
 use Rattle.fields.proofs.Lists.{same-more, same-not, same-end, same-length}
-use Rattle.fields.proofs.same.Statement.{statement}
-use Rattle.fields.proofs.same.Tie as tie
+use Rattle.names.proofs.same.Statement.{statement}
+use Rattle.names.proofs.same.Tie as tie
 
 abbrev Inv-loop : tie.InvT-loop
 Inv-loop a b i₀ i = (i ≤ length a) × (same a b ≡ same (drop i a) (drop i b))

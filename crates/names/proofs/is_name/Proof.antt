@@ -1,16 +1,16 @@
 -- `is_name` tells file names. The invariant: s is a name where what is left are bytes of names.
 -- Assumes nothing.
 use borrow.Author.Tests.{le-leb, lt-leb}
 use Rattle.fields.proofs.Lists.{all-more, all-not, all-end}
 use mathlib.Core.Path.{_≡_, sym, _∙_}
 use Prim.Native.Nat.{_-_, _≤_}
 use native.Mathlib.Omega.{arith}
 use denote.Ref.{now}
 use lib.ListN.{length, drop}
 use Rattle.fields.specs.Lists.{all}
 use Rattle.fields.specs.Name.{isNameByte, isName}
-use Rattle.fields.proofs.is_name.Statement.{statement}
-use Rattle.fields.proofs.is_name.Tie as tie
+use Rattle.names.proofs.is_name.Statement.{statement}
+use Rattle.names.proofs.is_name.Tie as tie
 
 abbrev Inv-loop : tie.InvT-loop
 Inv-loop s i₀ i = (i ≤ length s) × (all isNameByte (drop i s) ≡ isName s)

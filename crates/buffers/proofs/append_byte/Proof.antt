@@ -6,10 +6,10 @@ use Prim.Native.Nat.{_+_, _≤_}
 use native.Mathlib.Omega.{arith}
 use denote.Ref.{now}
 use lib.ListN.{length}
 use Rattle.fields.proofs.Buffer.{append-fits, append-short, set-over}
 use borrow.Author.Needs.{needs}
-use Rattle.fields.proofs.append_byte.Statement.{statement}
-use Rattle.fields.proofs.append_byte.Tie as tie
+use Rattle.buffers.proofs.append_byte.Statement.{statement}
+use Rattle.buffers.proofs.append_byte.Tie as tie
 
 pub append-byte-spec : {M : Type 1} → statement M
 append-byte-spec = tie.close (tie.spec

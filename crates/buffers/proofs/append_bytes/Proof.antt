@@ -6,10 +6,10 @@ use native.Mathlib.Omega.{arith}
 use denote.Ref.{now}
 use lib.ListN.{length, length-take, length-drop}
 use borrow.Rule.Slice.PartMut.{midOf}
 use Rattle.fields.proofs.Buffer.{append-part, append-short, count-le}
 use borrow.Author.Needs.{needs}
-use Rattle.fields.proofs.append_bytes.Statement.{statement}
-use Rattle.fields.proofs.append_bytes.Tie as tie
+use Rattle.buffers.proofs.append_bytes.Statement.{statement}
+use Rattle.buffers.proofs.append_bytes.Tie as tie
 
 sub-put-bytes : tie.Need-sub-put-bytes
 sub-put-bytes c = search needs

@@ -7,10 +7,10 @@ use native.Mathlib.Omega.{arith}
 use denote.Ref.{now}
 use lib.ListN.{length, take}
 use lib.Seq.{take-suc, take-all, length-take-le}
 use Rattle.fields.specs.Buffer.{over}
 use Rattle.fields.proofs.Buffer.{placed-fits, placed-short, count-fits, count-short, over-none, grown-length, grow-set}
-use Rattle.fields.proofs.put_bytes.Statement.{statement}
-use Rattle.fields.proofs.put_bytes.Tie as tie
+use Rattle.buffers.proofs.put_bytes.Statement.{statement}
+use Rattle.buffers.proofs.put_bytes.Tie as tie
 
 abbrev Inv-loop : tie.InvT-loop
 Inv-loop buf₀ bytes i₀ buf i = (i ≤ length bytes) × (buf ≡ over 0 (take i bytes) buf₀)

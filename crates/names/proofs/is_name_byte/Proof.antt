@@ -1,10 +1,10 @@
 -- `is_name_byte` tells the bytes of names.
 -- Assumes nothing.
 use Rattle.fields.proofs.Lists.{name-byte}
 use borrow.Author.Tests.{le-leb, lt-leb, eq-eqb, ne-eqb}
 use Rattle.fields.specs.Name.{isNameByte}
-use Rattle.fields.proofs.is_name_byte.Statement.{statement}
-use Rattle.fields.proofs.is_name_byte.Tie as tie
+use Rattle.names.proofs.is_name_byte.Statement.{statement}
+use Rattle.names.proofs.is_name_byte.Tie as tie
 
 returns : tie.Need-returns
 unfolding isNameByte
