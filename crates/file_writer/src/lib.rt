@@ -32,7 +32,7 @@ fn put_header(room: &mut [u8], name: &[u8], size: u32, stamp: Stamp) -> usize
     let next = put_front(room, name, size);
     match stamp {
         Stamp::Present(v) => {
-            let stamped = numerals::append_hex(room, next, v);
+            let stamped = hex_writer::append_hex(room, next, v);
             buffers::append_byte(room, stamped, 0)
         }
         Stamp::Absent => next,

@@ -56,7 +56,7 @@ fn put_head(reply: &mut [u8], size: u32, crc: u16, stamp: u32) -> usize
     let crc_start = buffers::append_bytes(reply, size_end, b"#|");
     let crc_end = numerals::append_decimal(reply, crc_start, crc as u64);
     let stamp_start = buffers::append_bytes(reply, crc_end, b"#$");
-    numerals::append_hex(reply, stamp_start, stamp)
+    hex_writer::append_hex(reply, stamp_start, stamp)
 }
 
 // `#BIN#`size`#|`crc`#$`stamp`?#`name`\r`

@@ -33,7 +33,7 @@ fn append_stamp(buf: &mut [u8], at: usize, stamp: Stamp) -> usize
     ensures { λ r. ⌜ (r ≡ appendedEnd at (stampBytes stamp) (now (buf .entry))) × (now (buf .exit) ≡ appended at (stampBytes stamp) (now (buf .entry))) × (stampFits stamp ≡ true) ⌝ }
 {
     match stamp {
-        Stamp::Present(v) => numerals::append_little(buf, at, 4, v),
+        Stamp::Present(v) => little_writer::append_little(buf, at, 4, v),
         Stamp::Absent => at,
     }
 }
@@ -44,12 +44,12 @@ fn put_record(buf: &mut [u8], name: &[u8], size: u32, kept: u32, stamp: Stamp) -
     ensures { λ r. ⌜ (r ≡ length (recordBytes (saved (now (name .entry)) size kept stamp))) × (now (buf .exit) ≡ over 0 (recordBytes (saved (now (name .entry)) size kept stamp)) (now (buf .entry))) × (stampFits stamp ≡ true) ⌝ }
 {
     let count = count_of(name.len(), stamp);
-    let counted = numerals::append_little(buf, 0, 2, count as u32);
-    let sorted = numerals::append_little(buf, counted, 2, kind_of(stamp));
-    let sized = numerals::append_little(buf, sorted, 4, size);
-    let held = numerals::append_little(buf, sized, 4, kept);
+    let counted = little_writer::append_little(buf, 0, 2, count as u32);
+    let sorted = little_writer::append_little(buf, counted, 2, kind_of(stamp));
+    let sized = little_writer::append_little(buf, sorted, 4, size);
+    let held = little_writer::append_little(buf, sized, 4, kept);
     let stamped = append_stamp(buf, held, stamp);
-    let named = numerals::append_little(buf, stamped, 1, name.len() as u32);
+    let named = little_writer::append_little(buf, stamped, 1, name.len() as u32);
     buffers::append_bytes(buf, named, name)
 }
 

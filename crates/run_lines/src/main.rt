@@ -12,7 +12,7 @@ mod printing;
 
 fn put_stamp(v: u32) {
     let mut digits = [0u8; 8];
-    numerals::append_hex(&mut digits, 0, v);
+    hex_writer::append_hex(&mut digits, 0, v);
     put(b" stamp ");
     put(&digits);
 }

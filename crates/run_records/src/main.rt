@@ -12,7 +12,7 @@ mod printing;
 
 fn print_byte(b: u8) {
     let mut digits = [0u8; 2];
-    numerals::fill_hex(&mut digits, b as u32);
+    hex_writer::fill_hex(&mut digits, b as u32);
     put(b" ");
     put(&digits);
 }

@@ -3,12 +3,12 @@
 use Prim.Native.Nat.{ℕ, _-_}
 use native.Mathlib.Omega.{arith}
 use denote.Ref.{now}
 use Rattle.numerals.specs.Writing.{hex}
 use Rattle.fields.proofs.Buffer.{append-whole, append-short}
 use Rattle.numerals.proofs.Writing.{hex-length}
 use borrow.Author.Needs.{needs}
-use Rattle.numerals.proofs.append_hex.Statement.{statement}
-use Rattle.numerals.proofs.append_hex.Tie as tie
+use Rattle.hex_writer.proofs.append_hex.Statement.{statement}
+use Rattle.hex_writer.proofs.append_hex.Tie as tie
 
 sub-if2 : tie.Need-sub-if2
 sub-if2 c = search needs

@@ -10,13 +10,13 @@ use lib.ListN.{length, take, drop, length-take, length-set}
 use lib.Seq.{length-front}
 use borrow.Fn.Kinds.{In}
 use borrow.Fn.PlainCycle.{Measures, is, falls, and}
 use Rattle.numerals.proofs.Writing.{hex-none, hex-more}
-use Rattle.numerals.proofs.capital.Reads as capital
-use Rattle.numerals.proofs.fill_hex.Reads as reads
-use Rattle.numerals.proofs.fill_hex.Kinds as kinds
-use Rattle.numerals.proofs.+fill_hex.Lts-fill_hex as lts
-use Rattle.numerals.proofs.+fill_hex.{statement}
-use Rattle.numerals.proofs.+fill_hex.Tie.{close}
+use Rattle.hex_writer.proofs.capital.Reads as capital
+use Rattle.hex_writer.proofs.fill_hex.Reads as reads
+use Rattle.hex_writer.proofs.fill_hex.Kinds as kinds
+use Rattle.hex_writer.proofs.+fill_hex.Lts-fill_hex as lts
+use Rattle.hex_writer.proofs.+fill_hex.{statement}
+use Rattle.hex_writer.proofs.+fill_hex.Tie.{close}
 
 abbrev μ : Measures 1 kinds.ps ℕ
 μ κs a = length (a .0 .now)

@@ -9,12 +9,12 @@ use lib.ListN.{length, set, length-take, length-drop, length-set}
 use borrow.Rule.Slice.PartMut.{midOf, same-len-mid}
 use borrow.Fn.Kinds.{In}
 use borrow.Fn.PlainCycle.{Measures, is, falls, and}
 use Rattle.numerals.proofs.Writing.{little-none, little-more}
-use Rattle.numerals.proofs.fill_little.Reads as reads
-use Rattle.numerals.proofs.fill_little.Kinds as kinds
-use Rattle.numerals.proofs.+fill_little.Lts-fill_little as lts
-use Rattle.numerals.proofs.+fill_little.{statement}
-use Rattle.numerals.proofs.+fill_little.Tie.{close}
+use Rattle.little_writer.proofs.fill_little.Reads as reads
+use Rattle.little_writer.proofs.fill_little.Kinds as kinds
+use Rattle.little_writer.proofs.+fill_little.Lts-fill_little as lts
+use Rattle.little_writer.proofs.+fill_little.{statement}
+use Rattle.little_writer.proofs.+fill_little.Tie.{close}
 
 abbrev μ : Measures 1 kinds.ps ℕ
 μ κs a = length (a .0 .now)

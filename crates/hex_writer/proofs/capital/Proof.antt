@@ -1,10 +1,10 @@
 -- `capital` gives the hex digit.
 -- Assumes nothing.
 use borrow.Author.Tests.{lt-ltb, le-ltb}
 use Rattle.numerals.specs.Writing.{capital}
 use borrow.Author.Needs.{needs}
-use Rattle.numerals.proofs.capital.Statement.{statement}
-use Rattle.numerals.proofs.capital.Tie as tie
+use Rattle.hex_writer.proofs.capital.Statement.{statement}
+use Rattle.hex_writer.proofs.capital.Tie as tie
 
 add-result : tie.Need-add-result
 add-result c = search needs

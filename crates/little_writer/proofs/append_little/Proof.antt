@@ -3,12 +3,12 @@
 use Prim.Native.Nat.{ℕ, _-_}
 use native.Mathlib.Omega.{arith}
 use denote.Ref.{now}
 use Rattle.numerals.specs.Writing.{little}
 use Rattle.fields.proofs.Buffer.{append-whole, append-short}
 use Rattle.numerals.proofs.Writing.{little-length}
 use borrow.Author.Needs.{needs}
-use Rattle.numerals.proofs.append_little.Statement.{statement}
-use Rattle.numerals.proofs.append_little.Tie as tie
+use Rattle.little_writer.proofs.append_little.Statement.{statement}
+use Rattle.little_writer.proofs.append_little.Tie as tie
 
 sub-if2 : tie.Need-sub-if2
 sub-if2 c = search needs
