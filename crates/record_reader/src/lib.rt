@@ -13,7 +13,7 @@ fn number_at(b: &[u8], from: usize, width: usize) -> u32
     requires { ⌜ width ≤ 4 ⌝ }
     ensures { λ r. ⌜ r ≡ numberAt from width (now (b .entry)) ⌝ }
 {
-    let Number::Value(v) = numbers::read_little(fields::part(b, from, width)) else {
+    let Number::Value(v) = little_reader::read_little(fields::part(b, from, width)) else {
         return 0;
     };
     v

@@ -1,10 +1,10 @@
 -- `hex_digit` answers by ranges, as the definition does. Assumes nothing.
 use mathlib.Core.Path.{sym}
 use native.Mathlib.Omega.{arith}
 use Rattle.numbers.proofs.Reading.{hex-is, hex-upper, hex-lower, hex-low, hex-past-nine, hex-past-upper, hex-past-lower}
 use borrow.Author.Needs.{needs}
-use Rattle.numbers.proofs.hex_digit.Statement.{statement}
-use Rattle.numbers.proofs.hex_digit.Tie as tie
+use Rattle.hex_reader.proofs.hex_digit.Statement.{statement}
+use Rattle.hex_reader.proofs.hex_digit.Tie as tie
 
 cast-result : tie.Need-cast-result
 cast-result c = search needs

@@ -4,11 +4,11 @@ use mathlib.Core.Path.{_≡_, _∙_}
 use native.Mathlib.Omega.{arith}
 use lib.ListN.{length, drop}
 use denote.Ref.{now}
 use Rattle.numbers.specs.Reading.{littleValue}
 use Rattle.numbers.proofs.Reading.{below-none, little-on, little-turn, little-fits, little-end}
 use borrow.Author.Needs.{needs}
-use Rattle.numbers.proofs.little_of.Statement.{statement}
-use Rattle.numbers.proofs.little_of.Tie as tie
+use Rattle.little_reader.proofs.little_of.Statement.{statement}
+use Rattle.little_reader.proofs.little_of.Tie as tie
 
 abbrev Inv-loop : tie.InvT-loop
 Inv-loop s acc₀ i₀ acc i = (i ≤ length s) × (acc < 256 ^ (length s - i)) × (acc ≡ littleValue (drop i s))

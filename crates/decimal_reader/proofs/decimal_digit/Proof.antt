@@ -1,10 +1,10 @@
 -- `decimal_digit` answers by ranges, as the definition does. Assumes nothing.
 use mathlib.Core.Path.{sym}
 use native.Mathlib.Omega.{arith}
 use Rattle.numbers.proofs.Reading.{decimal-is, decimal-low, decimal-high}
 use borrow.Author.Needs.{needs}
-use Rattle.numbers.proofs.decimal_digit.Statement.{statement}
-use Rattle.numbers.proofs.decimal_digit.Tie as tie
+use Rattle.decimal_reader.proofs.decimal_digit.Statement.{statement}
+use Rattle.decimal_reader.proofs.decimal_digit.Tie as tie
 
 cast-result : tie.Need-cast-result
 cast-result c = search needs

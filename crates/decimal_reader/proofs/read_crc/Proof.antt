@@ -1,9 +1,9 @@
 -- `read_crc` reads up to five digits, and refuses what is above 65,535. Assumes nothing.
 use mathlib.Core.Path.{sym, _∙_}
 use Rattle.numbers.proofs.Reading.{readCrc-bad, readCrc-high, readCrc-is}
 use borrow.Author.Needs.{needs}
-use Rattle.numbers.proofs.read_crc.Statement.{statement}
-use Rattle.numbers.proofs.read_crc.Tie as tie
+use Rattle.decimal_reader.proofs.read_crc.Statement.{statement}
+use Rattle.decimal_reader.proofs.read_crc.Tie as tie
 
 decimal-of-requires : tie.Need-decimal-of-requires
 decimal-of-requires c κs = search needs

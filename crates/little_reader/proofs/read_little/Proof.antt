@@ -1,10 +1,10 @@
 -- `read_little` tests the length, and then asks for the bytes' value. Assumes nothing.
 use mathlib.Core.Path.{ap, _∙_}
 use Rattle.numbers.specs.declared.Number.the-variants.{Value}
 use Rattle.numbers.proofs.Reading.{readLittle-is, readLittle-bad}
 use borrow.Author.Needs.{needs}
-use Rattle.numbers.proofs.read_little.Statement.{statement}
-use Rattle.numbers.proofs.read_little.Tie as tie
+use Rattle.little_reader.proofs.read_little.Statement.{statement}
+use Rattle.little_reader.proofs.read_little.Tie as tie
 
 little-of-requires : tie.Need-little-of-requires
 little-of-requires c κs = search needs
