@@ -3,21 +3,13 @@ use calls::Status;
 use fields::Place;
 use fields::Stamp;
 use reader::Reader;
-use reader::Received;
 use yapp::SenderState;
+use yapp_answering::Answer;
 use yapp_core::SenderCore;
 use yapp_sending::Event;
-use yapp_sending::Step;
 ghost use mathlib.Core.Path.{_≡_};
-ghost use mathlib.Core.List.{[]};
-ghost use Prim.Native.Nat.{_≤_};
-ghost use lib.ListN.{length};
-ghost use Rattle.calls.specs.Checks.{checkOf};
-ghost use Rattle.yapp.specs.Steps.{senderEnded};
-ghost use Rattle.yapp_core.specs.Core.{nowhere};
-ghost use Rattle.yapp_sending.specs.Sending.{moveOf};
-ghost use Rattle.yapp_sender.specs.Sender.{begin as beginOf, settingsOf, moved as movedOf, replied, statusOf, unlessRefused, arrived as arrivedOf, transmit as transmitOf, receive as receiveOf, timeout as timeoutOf, cancel as cancelOf};
-ghost use Rattle.yapp_sender.specs.Acts.{settledBy};
+ghost use Rattle.yapp_sender.specs.Sender.{begin as beginOf, transmit as transmitOf, receive as receiveOf, timeout as timeoutOf, cancel as cancelOf};
+ghost use Rattle.yapp_sender.specs.Acts.{answeredBy, settledBy};
 
 pub struct Sender {
     reader: Reader,
@@ -36,105 +28,21 @@ pub struct SenderAnswer {
     pub shown: Place,
 }
 
-// The sender with another reader, in the state and mode of the step.
-fn moved(m: Sender, reader: Reader, step: Step) -> Sender
-    ensures { λ r. ⌜ r ≡ movedOf m reader (record { state = step .state; checked = step .checked; out = [] }) ⌝ }
+// The sender after a call, and what the call answers.
+fn answered(name: [u8; 64], answer: Answer) -> SenderAnswer
+    ensures { λ r. ⌜ r ≡ answeredBy name answer ⌝ }
 {
-    let core = m.core;
-    let stamp = core.stamp;
-    let state = step.state;
-    let next = SenderCore {
-        state,
-        named: core.named,
-        size: core.size,
-        block: core.block,
-        stamp,
-        resumes: core.resumes,
-    };
-    let name = m.name;
-    Sender {
-        reader: reader.checking(step.checked),
-        name,
-        core: next,
-    }
-}
-
-// Whether the end is reached.
-fn is_ended(state: SenderState) -> bool
-    ensures { λ r. ⌜ r ≡ senderEnded state ⌝ }
-{
-    if let SenderState::Ended { .. } = state {
-        true
-    } else {
-        false
-    }
-}
-
-// The checks of a call.
-fn check(core: SenderCore, lent: usize, reply: usize) -> Status
-    ensures { λ r. ⌜ r ≡ checkOf (senderEnded (core .state)) reply 0 lent (core .size) ⌝ }
-{
-    let state = core.state;
-    calls::check(is_ended(state), reply, 0, lent, core.size as usize)
-}
-
-// A refused call changes nothing.
-fn refused(sender: Sender, status: Status) -> SenderAnswer
-    ensures { λ r. ⌜ r ≡ record { sender = sender; status = status; taken = 0; sent = 0; shown = nowhere } ⌝ }
-{
+    let reader = answer.reader;
+    let core = answer.core;
+    let status = answer.status;
+    let shown = answer.shown;
     SenderAnswer {
-        sender,
+        sender: Sender { reader, name, core },
         status,
-        taken: 0,
-        sent: 0,
-        shown: Place { start: 0, len: 0 },
-    }
-}
-
-// The answer of a call that is taken: of the sender with the reader after it, how many bytes were taken, and the text to show.
-fn acted(
-    m: Sender,
-    reader: Reader,
-    taken: usize,
-    shown: Place,
-    step: Step,
-    file: &[u8],
-    reply: &mut [u8],
-) -> SenderAnswer
-    requires { ⌜ 259 ≤ length (now reply) ⌝ }
-    ensures { λ r. ⌜ replied m reader taken shown (moveOf (settingsOf m) (now (file .entry)) step) (now (reply .entry)) ≡ record { answer = r; reply = now (reply .exit) } ⌝ }
-{
-    let sender = moved(m, reader, step);
-    let core = m.core;
-    let name = m.name;
-    let sent = yapp_sent::put(core, name, step, file, reply);
-    SenderAnswer {
-        sender,
-        status: Status::Taken,
-        taken,
-        sent,
+        taken: answer.taken,
+        sent: answer.sent,
         shown,
     }
-}
-
-// The answer of a call; where it is refused, nothing of the step is done.
-fn answered(
-    m: Sender,
-    reader: Reader,
-    taken: usize,
-    shown: Place,
-    step: Step,
-    file: &[u8],
-    reply: &mut [u8],
-) -> SenderAnswer
-    ensures { λ r. ⌜ unlessRefused (statusOf m (now (file .entry)) (now (reply .entry))) m (now (reply .entry)) (replied m reader taken shown (moveOf (settingsOf m) (now (file .entry)) step) (now (reply .entry))) ≡ record { answer = r; reply = now (reply .exit) } ⌝ }
-{
-    let core = m.core;
-    let status = check(core, file.len(), reply.len());
-    if calls::is_taken(status) {
-        return acted(m, reader, taken, shown, step, file, reply);
-    }
-    refused(m, status)
 }
 
 // An event, with which no bytes come.
@@ -142,21 +50,12 @@ fn settled(m: Sender, event: Event, file: &[u8], reply: &mut [u8]) -> SenderAnsw
     ensures { λ r. ⌜ settledBy event m (now (file .entry)) (now (reply .entry)) ≡ record { answer = r; reply = now (reply .exit) } ⌝ }
 {
     let core = m.core;
-    let step = yapp_sending::happens(core, m.checked(), event, file);
     let reader = m.reader;
-    let nothing = Place { start: 0, len: 0 };
-    answered(m, reader, 0, nothing, step, file, reply)
-}
-
-// What arrived is acted on.
-fn arrived(m: Sender, got: Received, file: &[u8], reply: &mut [u8]) -> SenderAnswer
-    ensures { λ r. ⌜ unlessRefused (statusOf m (now (file .entry)) (now (reply .entry))) m (now (reply .entry)) (arrivedOf m got (now (reply .entry))) ≡ record { answer = r; reply = now (reply .exit) } ⌝ }
-{
-    let core = m.core;
-    let step = yapp_taking::takes(core, m.checked(), got);
-    let shown = yapp_core::shown_in(core, got);
-    let reader = got.reader;
-    answered(m, reader, got.taken, shown, step, file, reply)
+    let name = m.name;
+    answered(
+        name,
+        yapp_answering::settle(event, core, reader, name, file, reply),
+    )
 }
 
 impl Sender {
@@ -216,8 +115,13 @@ impl Sender {
     pub fn receive(self, chunk: &[u8], file: &[u8], reply: &mut [u8]) -> SenderAnswer
         ensures { λ r. ⌜ receiveOf self (now (chunk .entry)) (now (file .entry)) (now (reply .entry)) ≡ record { answer = r; reply = now (reply .exit) } ⌝ }
     {
+        let core = self.core;
         let reader = self.reader;
-        arrived(self, reader.receive(chunk), file, reply)
+        let name = self.name;
+        answered(
+            name,
+            yapp_answering::receive(core, reader, name, chunk, file, reply),
+        )
     }
 
     // The timer ran out.

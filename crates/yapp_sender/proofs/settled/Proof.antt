@@ -1,18 +1,14 @@
--- What an event does, where the call is taken. Assumes nothing.
-use mathlib.Core.Path.{refl, _∙_}
-use native.Mathlib.Omega.{arith}
+-- What the call below leaves. Assumes nothing.
+use mathlib.Core.Path.{ap, _∙_}
 use denote.Ref.{now}
-use Rattle.yapp_sender.specs.Sender.{settingsOf}
-use Rattle.yapp_sender.proofs.Calls.{call-settled}
+use Rattle.yapp_sender.specs.Acts.{afterBy}
+use Rattle.yapp_sender.proofs.Calls.{settled-is}
 use borrow.Author.Needs.{needs}
 use Rattle.yapp_sender.proofs.settled.Statement.{statement}
 use Rattle.yapp_sender.proofs.settled.Tie as tie
 
-checked-requires : tie.Need-checked-requires
-checked-requires c κs = search needs
-
-happens-requires : tie.Need-happens-requires
-happens-requires c κs = search needs
+settle-requires : tie.Need-settle-requires
+settle-requires c κs = search needs
 
 answered-requires : tie.Need-answered-requires
 answered-requires c κs = search needs
@@ -23,8 +19,7 @@ same-length c = search needs
 returns : tie.Need-returns
 returns c =
     let a = c .before .before .before .before .before .before .before .before .before .before .args in
-    call-settled (a .m) (now (a .file)) (now (a .reply)) _ _ _ (omega (arith, c .before .before .before .before .before .before .before .before .before .before .good .0)) (λ h. c .before .before .before .before .before .happens .ensures (settingsOf (a .m)) refl h ∙ rw (c .before .before .before .before .before .before .checked .ensures)) (c .before .before .answered .ensures)
+    settled-is (a .m) (now (a .file)) (now (a .reply)) (a .event) ∙ ap (afterBy (a .m .name)) (c .before .before .before .settle .ensures) ∙ rw (c .answered .ensures)
 
 pub settled-spec : {M : Type 1} → statement M
-settled-spec =
-    tie.close (tie.spec checked-requires happens-requires answered-requires same-length returns)
+settled-spec = tie.close (tie.spec settle-requires answered-requires same-length returns)

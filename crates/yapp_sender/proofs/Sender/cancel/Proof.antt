@@ -1,4 +1,5 @@
 -- The operator's stop. Assumes nothing.
+use Rattle.yapp_sender.specs.Acts.{settledBy}
 use Rattle.yapp_sender.specs.Sender.{cancel}
 use borrow.Author.Needs.{needs}
 use Rattle.yapp_sender.proofs.Sender.cancel.Statement.{statement}
@@ -11,7 +12,7 @@ same-length : tie.Need-same-length
 same-length c = search needs
 
 returns : tie.Need-returns
-unfolding cancel
+unfolding cancel settledBy
 returns c = c .before .before .settled .ensures
 
 pub cancel-spec : {M : Type 1} → statement M

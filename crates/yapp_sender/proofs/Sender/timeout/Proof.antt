@@ -1,4 +1,5 @@
 -- The timer ran out. Assumes nothing.
+use Rattle.yapp_sender.specs.Acts.{settledBy}
 use Rattle.yapp_sender.specs.Sender.{timeout}
 use borrow.Author.Needs.{needs}
 use Rattle.yapp_sender.proofs.Sender.timeout.Statement.{statement}
@@ -11,7 +12,7 @@ same-length : tie.Need-same-length
 same-length c = search needs
 
 returns : tie.Need-returns
-unfolding timeout
+unfolding timeout settledBy
 returns c = c .before .before .settled .ensures
 
 pub timeout-spec : {M : Type 1} → statement M

@@ -1,4 +1,5 @@
 -- SI, or the next block of the file. Assumes nothing.
+use Rattle.yapp_sender.specs.Acts.{settledBy}
 use Rattle.yapp_sender.specs.Sender.{transmit}
 use borrow.Author.Needs.{needs}
 use Rattle.yapp_sender.proofs.Sender.transmit.Statement.{statement}
@@ -11,7 +12,7 @@ same-length : tie.Need-same-length
 same-length c = search needs
 
 returns : tie.Need-returns
-unfolding transmit
+unfolding transmit settledBy
 returns c = c .before .before .settled .ensures
 
 pub transmit-spec : {M : Type 1} → statement M

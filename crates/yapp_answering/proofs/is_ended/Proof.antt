@@ -1,8 +1,8 @@
 -- Whether the end is reached. Assumes nothing.
-use Rattle.yapp_sender.proofs.Tags.{not-ended}
+use Rattle.yapp_answering.proofs.Tags.{not-ended}
 use borrow.Author.Needs.{needs}
-use Rattle.yapp_sender.proofs.is_ended.Statement.{statement}
-use Rattle.yapp_sender.proofs.is_ended.Tie as tie
+use Rattle.yapp_answering.proofs.is_ended.Statement.{statement}
+use Rattle.yapp_answering.proofs.is_ended.Tie as tie
 
 enum-told : tie.Need-enum-told
 enum-told c = search needs

@@ -1,8 +1,8 @@
 -- The status of a call. Assumes nothing.
 use mathlib.Core.Path.{_∙_}
 use borrow.Author.Needs.{needs}
-use Rattle.yapp_sender.proofs.check.Statement.{statement}
-use Rattle.yapp_sender.proofs.check.Tie as tie
+use Rattle.yapp_answering.proofs.check.Statement.{statement}
+use Rattle.yapp_answering.proofs.check.Tie as tie
 
 is-ended-requires : tie.Need-is-ended-requires
 is-ended-requires c κs = search needs

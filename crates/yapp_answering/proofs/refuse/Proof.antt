@@ -1,0 +1,10 @@
+-- `refuse` changes nothing. Assumes nothing.
+use borrow.Author.Needs.{needs}
+use Rattle.yapp_answering.proofs.refuse.Statement.{statement}
+use Rattle.yapp_answering.proofs.refuse.Tie as tie
+
+returns : tie.Need-returns
+returns c = search needs
+
+pub refuse-spec : {M : Type 1} → statement M
+refuse-spec = tie.close (tie.spec returns)
