@@ -1,8 +1,8 @@
 -- `write_record` writes where there is a record. Assumes nothing.
 use mathlib.Core.Path.{refl}
 use borrow.Author.Needs.{needs}
-use Rattle.calls.proofs.write_record.Statement.{statement}
-use Rattle.calls.proofs.write_record.Tie as tie
+use Rattle.keeping.proofs.write_record.Statement.{statement}
+use Rattle.keeping.proofs.write_record.Tie as tie
 
 enum-told : tie.Need-enum-told
 enum-told c = search needs

@@ -1,7 +1,7 @@
 -- `held` is the record with the length that its name has in the array. Assumes nothing.
 use borrow.Author.Needs.{needs}
-use Rattle.calls.proofs.held.Statement.{statement}
-use Rattle.calls.proofs.held.Tie as tie
+use Rattle.keeping.proofs.held.Statement.{statement}
+use Rattle.keeping.proofs.held.Tie as tie
 
 enum-told : tie.Need-enum-told
 enum-told c = search needs

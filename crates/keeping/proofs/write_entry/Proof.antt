@@ -1,7 +1,7 @@
 -- `write_entry` writes the record of the name's own bytes. Assumes nothing.
 use borrow.Author.Needs.{needs}
-use Rattle.calls.proofs.write_entry.Statement.{statement}
-use Rattle.calls.proofs.write_entry.Tie as tie
+use Rattle.keeping.proofs.write_entry.Statement.{statement}
+use Rattle.keeping.proofs.write_entry.Tie as tie
 
 part-requires : tie.Need-part-requires
 part-requires c κs = search needs

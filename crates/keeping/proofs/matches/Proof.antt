@@ -1,7 +1,7 @@
 -- `matches` compares name and size. Assumes nothing.
 use borrow.Author.Needs.{needs}
-use Rattle.calls.proofs.matches.Statement.{statement}
-use Rattle.calls.proofs.matches.Tie as tie
+use Rattle.keeping.proofs.matches.Statement.{statement}
+use Rattle.keeping.proofs.matches.Tie as tie
 
 part-requires : tie.Need-part-requires
 part-requires c κs = search needs

@@ -1,7 +1,7 @@
 -- `is_within` makes both tests. Assumes nothing.
 use borrow.Author.Tests.{le-leb, lt-leb}
-use Rattle.calls.proofs.is_within.Statement.{statement}
-use Rattle.calls.proofs.is_within.Tie as tie
+use Rattle.keeping.proofs.is_within.Statement.{statement}
+use Rattle.keeping.proofs.is_within.Tie as tie
 
 returns : tie.Need-returns
 returns c = rw (le-leb _ _ (c .if1 .taken))
