@@ -14,7 +14,7 @@ use Rattle.spans.specs.declared.Span.{Span}
 use Rattle.spans.specs.declared.Span.the-variants.{Open, Whole, Drop}
 use Rattle.spans.specs.Span.{span, sizeOf}
 use Rattle.spans.proofs.Laws.{grown, size-within, settled-more, open-short, open-before}
-use Rattle.reader.specs.Reader.{Fed, slot, after, feed}
+use Rattle.pending.specs.Pending.{Fed, slot, after, feed}
 
 -- the buffer a holds n pending bytes, p
 pub record Waits (a : List ℕ) (n : ℕ) (p : List ℕ) : Type 0 where

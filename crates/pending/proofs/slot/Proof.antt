@@ -1,10 +1,10 @@
--- `reader::slot` meets its contract.
+-- `pending::slot` meets its contract.
 -- Assumes nothing.
 use borrow.Author.Tests.{lt-ltb, le-ltb}
 use native.Mathlib.Omega.{arith}
-use Rattle.reader.specs.Reader.{slot}
-use Rattle.reader.proofs.slot.Statement.{statement}
-use Rattle.reader.proofs.slot.Tie as tie
+use Rattle.pending.specs.Pending.{slot}
+use Rattle.pending.proofs.slot.Statement.{statement}
+use Rattle.pending.proofs.slot.Tie as tie
 
 returns : tie.Need-returns
 unfolding slot
