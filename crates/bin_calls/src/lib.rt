@@ -75,7 +75,7 @@ pub fn receive(
 {
     let status = bin_checks::check(state, reply.len(), frame.len(), area.len(), room);
     if calls::is_taken(status) {
-        let held = calls::held(keeping, name);
+        let held = keeping::held(keeping, name);
         let step = bin_receiving::take(room, resumes, state, held, frame, name, area);
         return finish(step, bin_checks::shown_in(state, frame), name, frame, reply);
     }
@@ -96,7 +96,7 @@ pub fn fail(
 {
     let status = bin_checks::check(state, reply.len(), 0, area.len(), room);
     if calls::is_taken(status) {
-        let held = calls::held(keeping, name);
+        let held = keeping::held(keeping, name);
         let step = bin_receiving::fail(outcome, state, held);
         let shown = Place { start: 0, len: 0 };
         return finish(step, shown, name, b"", reply);

@@ -35,7 +35,7 @@ fn matches(entry: Entry, line: Line, frame: &[u8], name: &[u8]) -> bool
 {
     let place = line.name;
     let own = fields::bytes_at(frame, place);
-    calls::matches(entry, name, own, line.size)
+    keeping::matches(entry, name, own, line.size)
 }
 
 fn both(a: bool, b: bool) -> bool

@@ -196,7 +196,7 @@ impl Receiver {
         let core = self.core;
         let keeping = core.keeping;
         let name = self.name;
-        calls::write_record(keeping, &name, buf)
+        keeping::write_record(keeping, &name, buf)
     }
 
     pub fn state(self) -> ReceiverState

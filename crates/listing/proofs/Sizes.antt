@@ -13,7 +13,7 @@ use Rattle.spans.specs.declared.Span.{Span}
 use Rattle.spans.specs.declared.Span.the-variants.{Open, Whole, Drop}
 use Rattle.spans.specs.Span.{span, sizeOf}
 use Rattle.spans.proofs.Laws.{at-none, grown, size-within}
-use Rattle.reader.specs.Reader.{Fed, slot, after, feed}
+use Rattle.pending.specs.Pending.{Fed, slot, after, feed}
 use Rattle.reader.specs.Stream.{settle, streamFrom}
 use Rattle.listing.specs.Text.{sizeAll}
 

@@ -15,9 +15,10 @@ use Rattle.packets.specs.Packet.{packetIn}
 use Rattle.packets.specs.Content.{contentOf}
 use Rattle.spans.proofs.Laws.{at-none, open-fits}
 use Rattle.reader.specs.declared.Reader.{Reader}
-use Rattle.reader.specs.Reader.{Fed, feed, fresh, received}
+use Rattle.pending.specs.Pending.{Fed, feed}
+use Rattle.reader.specs.Reader.{fresh, received}
 use Rattle.reader.specs.Stream.{Piece, Stream, pieceOf, joined, settle, streamFrom, streamOf, Run, noted, ran, handOver, handAll, concat, Bytes}
-use Rattle.reader.proofs.Framing.{Waits, Goes, Stops, fed}
+use Rattle.pending.proofs.Framing.{Waits, Goes, Stops, fed}
 use Rattle.reader.proofs.Held.{piece-more, front, front-settled, stream-front}
 
 -- ---- bytes

@@ -1,4 +1,3 @@
-pub mod Feeding
-pub mod Framing
+pub mod Empty
 pub mod Held
 pub mod Chunks

@@ -2,9 +2,7 @@
 use packets::Packet;
 use spans::Span;
 ghost use mathlib.Core.Path.{_≡_};
-ghost use lib.ListN.{length};
-ghost use Prim.Native.Nat.{_<_};
-ghost use Rattle.reader.specs.Reader.{Fed, slot as slotOf, feed, fresh, checking, receive as receiveOf};
+ghost use Rattle.reader.specs.Reader.{fresh, checking, receive as receiveOf};
 
 pub struct Reader {
     // The bytes of an unfinished packet (document 01's waiting room), and after a packet its bytes.
@@ -23,57 +21,6 @@ pub struct Received {
     pub found: Span,
     // The packet; its places are in the reader's pending bytes.
     pub packet: Packet,
-}
-
-struct Filled {
-    filled: usize,
-    taken: usize,
-    found: Span,
-}
-
-// Where the next byte goes.
-fn slot(filled: usize) -> usize
-    ensures { λ r. ⌜ (r ≡ slotOf filled) × (r < 259) ⌝ }
-{
-    if filled < 259 { filled } else { 0 }
-}
-
-// Fills the pending bytes from the chunk until they are a packet, or a drop.
-fn fill(pending: &mut [u8], filled: usize, checked: bool, chunk: &[u8]) -> Filled
-    requires { ⌜ length (now pending) ≡ 259 ⌝ }
-    ensures { λ r. ⌜ feed checked (now (pending .entry)) filled 0 (now (chunk .entry)) ≡ record { pending = now (pending .exit); filled = r .filled; taken = r .taken; found = r .found } ⌝ }
-{
-    let mut n = filled;
-    let mut i = 0;
-    while i < chunk.len() {
-        let at = slot(n);
-        pending[at] = chunk[i];
-        n = at + 1;
-        i += 1;
-        let found = spans::span_of(&pending[..n], checked);
-        match found {
-            Span::Open => {}
-            Span::Whole(w) => {
-                return Filled {
-                    filled: 0,
-                    taken: i,
-                    found: Span::Whole(w),
-                };
-            }
-            Span::Drop(w) => {
-                return Filled {
-                    filled: 0,
-                    taken: i,
-                    found: Span::Drop(w),
-                };
-            }
-        }
-    }
-    Filled {
-        filled: n,
-        taken: i,
-        found: Span::Open,
-    }
 }
 
 impl Reader {
@@ -128,7 +75,7 @@ impl Reader {
         let mut pending = self.pending;
         let checked = self.checked;
         let filled = self.filled;
-        let f = fill(&mut pending, filled, checked, chunk);
+        let f = pending::fill(&mut pending, filled, checked, chunk);
         let found = f.found;
         let packet = packet_reader::packet_in(found, &pending, checked);
         Received {

@@ -19,7 +19,7 @@ use Rattle.crc.specs.Crc.{reduced, remainder, byteStep, walkFrom}
 use Rattle.spans.specs.Span as span
 use Rattle.packets.specs.Packet as packet
 use Rattle.packets.specs.Content as content
-use Rattle.reader.specs.Reader as reader
+use Rattle.pending.specs.Pending as pending
 use Rattle.records.specs.Record as record-read
 use Rattle.records.specs.Saved as saved
 use Rattle.lines.specs.Frame as frame
@@ -44,7 +44,7 @@ use Rattle.transfers.proofs.Demand.{safety, completion}
 
 -- opens all that a session computes with: `unfolding opened`
 unfoldable opened : Unit {0}
-unfolding machine all upTo same isName isNameByte over appended radix decimalDigit hexDigit valueFrom readDecimal readCrc readHex littleValue decimal digits hex capital little reduced remainder byteStep walkFrom span.known span.paired span.dataLength span.counted span.total span.spanAt span.lead span.trail span.placeAt packet.stampOf packet.headerSize packet.headerRead packet.checksum packet.isSound packet.acknowledgeOf packet.wholeOf content.contentOf content.stampData content.headerData content.headerForm content.blockForm content.formOf reader.slot reader.feed record-read.namedAt record-read.kindRead record-read.recordOf saved.kindOf saved.stampBytes saved.recordData saved.recordBytes saved.isSaved saved.recordForm frame.starts frame.ends frame.body frame.hasHash frame.behind frame.marked frame.lineName frame.hasResume frame.stampDigits frame.lineStamp frame.lineCrc frame.lineRead frame.lineOf frame.okKept frame.okRead frame.okOf frame.frameOf element.contentOf element.lineBytes element.keptBytes element.lineForm element.okKeptForm element.formOf checkOf ysteps.writes ysender.begin ysender.transmit ysender.receive yreceiver.fresh yreceiver.receive bsteps.heard bsteps.cut bsteps.sendsFrom bsteps.senderLeaves bsteps.resumesAt bsteps.senderHears bsteps.senderTakes bsteps.judgeWhole bsteps.judgeRecord bsteps.judgeExtended bsteps.receiverHears bsteps.takesFrame bsteps.receiverTakes bsender.begin bsender.transmit bsender.receive breceiver.withSaved breceiver.resume breceiver.receive
+unfolding machine all upTo same isName isNameByte over appended radix decimalDigit hexDigit valueFrom readDecimal readCrc readHex littleValue decimal digits hex capital little reduced remainder byteStep walkFrom span.known span.paired span.dataLength span.counted span.total span.spanAt span.lead span.trail span.placeAt packet.stampOf packet.headerSize packet.headerRead packet.checksum packet.isSound packet.acknowledgeOf packet.wholeOf content.contentOf content.stampData content.headerData content.headerForm content.blockForm content.formOf pending.slot pending.feed record-read.namedAt record-read.kindRead record-read.recordOf saved.kindOf saved.stampBytes saved.recordData saved.recordBytes saved.isSaved saved.recordForm frame.starts frame.ends frame.body frame.hasHash frame.behind frame.marked frame.lineName frame.hasResume frame.stampDigits frame.lineStamp frame.lineCrc frame.lineRead frame.lineOf frame.okKept frame.okRead frame.okOf frame.frameOf element.contentOf element.lineBytes element.keptBytes element.lineForm element.okKeptForm element.formOf checkOf ysteps.writes ysender.begin ysender.transmit ysender.receive yreceiver.fresh yreceiver.receive bsteps.heard bsteps.cut bsteps.sendsFrom bsteps.senderLeaves bsteps.resumesAt bsteps.senderHears bsteps.senderTakes bsteps.judgeWhole bsteps.judgeRecord bsteps.judgeExtended bsteps.receiverHears bsteps.takesFrame bsteps.receiverTakes bsender.begin bsender.transmit bsender.receive breceiver.withSaved breceiver.resume breceiver.receive
 opened = tt
 
 abbrev pub file : List ℕ

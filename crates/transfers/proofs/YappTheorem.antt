@@ -20,7 +20,7 @@ use Rattle.packets.specs.Content.{Content}
 use Rattle.reader.specs.declared.Reader.{Reader}
 use Rattle.reader.specs.declared.Received.{Received}
 use Rattle.reader.specs.Reader.{fresh as freshReader, receive as reads}
-use Rattle.reader.proofs.Framing.{Waits}
+use Rattle.pending.proofs.Framing.{Waits}
 use Rattle.calls.specs.declared.Outcome.the-variants.{Success}
 use Rattle.calls.specs.declared.Status.{Status}
 use Rattle.calls.specs.declared.Status.the-variants.{Taken, Over, LongFrame, SmallReply, WrongLength}

@@ -24,8 +24,9 @@ use Rattle.packets.proofs.RoundTrip.{reads-back, form-framed, reply-fits, plain
 use Rattle.packets.proofs.Places.{places}
 use Rattle.reader.specs.declared.Reader.{Reader}
 use Rattle.reader.specs.declared.Received.{Received}
-use Rattle.reader.specs.Reader.{Fed, feed, checking, received, receive as reads}
-use Rattle.reader.proofs.Framing.{Waits, More, Done, framing, rest-is}
+use Rattle.pending.specs.Pending.{Fed, feed}
+use Rattle.reader.specs.Reader.{checking, received, receive as reads}
+use Rattle.pending.proofs.Framing.{Waits, More, Done, framing, rest-is}
 use Rattle.yapp.specs.Steps.{bytesIn, writes}
 use Rattle.yapp_sender.specs.Sender.{heard}
 use Rattle.transfers.specs.World.{World}

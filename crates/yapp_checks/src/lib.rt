@@ -40,7 +40,7 @@ fn begin_saved(r: Record, bytes: &[u8], room: usize) -> Begun
 {
     let place = r.name;
     let stamp = r.stamp;
-    if calls::is_within(r.kept, r.size, room) {
+    if keeping::is_within(r.kept, r.size, room) {
         let name = fields::bytes_at(bytes, place);
         let entry = Entry {
             named: name.len(),

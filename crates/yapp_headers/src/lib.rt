@@ -108,7 +108,7 @@ fn resume_file(
     if settings.resumes {
         let place = header.place;
         let own = fields::bytes_at(pending, place);
-        if calls::matches(entry, name, own, header.number) {
+        if keeping::matches(entry, name, own, header.number) {
             let position = step_back(entry.kept);
             return accept(
                 settings.checks,

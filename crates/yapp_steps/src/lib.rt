@@ -70,7 +70,7 @@ pub fn stay(current: Current, name: &[u8], state: ReceiverState, out: Out) -> St
     ensures { λ r. ⌜ r ≡ stays current (now (name .entry)) state out ⌝ }
 {
     let keeping = current.keeping;
-    let held = calls::held(keeping, name);
+    let held = keeping::held(keeping, name);
     let place = Place { start: 0, len: 0 };
     Step {
         state,

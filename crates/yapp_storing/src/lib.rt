@@ -60,7 +60,7 @@ fn grow(current: Current, name: &[u8], kept: u32, n: usize) -> Step
 {
     let state = current.state;
     let keeping = current.keeping;
-    let held = calls::held(keeping, name);
+    let held = keeping::held(keeping, name);
     let grown = keep_at(held, kept);
     let place = Place { start: 0, len: 0 };
     Step {

@@ -1,0 +1,16 @@
+-- `walk` makes the table and walks by it. Assumes nothing.
+use borrow.Author.Needs.{needs}
+use Rattle.crc.proofs.walk.Statement.{statement}
+use Rattle.crc.proofs.walk.Tie as tie
+
+remainders-requires : tie.Need-remainders-requires
+remainders-requires c κs = search needs
+
+walk-by-requires : tie.Need-walk-by-requires
+walk-by-requires c κs = search needs
+
+returns : tie.Need-returns
+returns c = search needs
+
+pub walk-spec : {M : Type 1} → statement M
+walk-spec = tie.close (tie.spec remainders-requires walk-by-requires returns)

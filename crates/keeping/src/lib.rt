@@ -1,0 +1,71 @@
+// What a receiver keeps of a file: whether a record matches, and how it is written.
+use calls::Entry;
+use calls::Keeping;
+use calls::RecordAnswer;
+use fields::Written;
+ghost use mathlib.Core.Path.{_≡_};
+ghost use lib.ListN.{take};
+ghost use Rattle.fields.specs.Buffer.{writtenOf, leftOf};
+ghost use Rattle.records.specs.Saved.{recordForm, saved};
+ghost use Rattle.calls.specs.Saving.{savedBy, heldOf, isWithin, matchesOf, formBy};
+ghost use Rattle.calls.specs.Recording.{recordAnswer, recordLeft};
+
+// The record, whose name is no longer than the array.
+pub fn held(keeping: Keeping, name: &[u8]) -> Keeping
+    ensures { λ r. ⌜ r ≡ heldOf keeping (now (name .entry)) ⌝ }
+{
+    match keeping {
+        Keeping::Nothing => Keeping::Nothing,
+        Keeping::Of(e) => {
+            let stamp = e.stamp;
+            let own = fields::part(name, 0, e.named);
+            Keeping::Of(Entry {
+                named: own.len(),
+                size: e.size,
+                kept: e.kept,
+                stamp,
+            })
+        }
+    }
+}
+
+// Whether the kept bytes are within the size, and the size within the area.
+pub fn is_within(kept: u32, size: u32, room: usize) -> bool
+    ensures { λ r. ⌜ r ≡ isWithin kept size room ⌝ }
+{
+    if kept <= size {
+        return size as usize <= room;
+    }
+    false
+}
+
+// Whether a header or line with this name and size is the record's, whose name stands in held.
+pub fn matches(entry: Entry, held: &[u8], name: &[u8], size: u32) -> bool
+    ensures { λ r. ⌜ r ≡ matchesOf entry (now (held .entry)) (now (name .entry)) size ⌝ }
+{
+    let named = entry.named;
+    if names::same(fields::part(held, 0, named), name) {
+        return entry.size == size;
+    }
+    false
+}
+
+// Writes the record of a name and an entry.
+fn write_entry(entry: Entry, name: &[u8], buf: &mut [u8]) -> Written
+    ensures { λ r. ⌜ (r ≡ writtenOf 81 (recordForm (saved (take (entry .named) (now (name .entry))) (entry .size) (entry .kept) (entry .stamp))) (now (buf .entry))) × (now (buf .exit) ≡ leftOf 81 (recordForm (saved (take (entry .named) (now (name .entry))) (entry .size) (entry .kept) (entry .stamp))) (now (buf .entry))) ⌝ }
+{
+    let stamp = entry.stamp;
+    let named = entry.named;
+    let own = fields::part(name, 0, named);
+    record_writer::write(buf, own, entry.size, entry.kept, stamp)
+}
+
+// Writes the record's bytes, where there is a record; its name stands at the front of name.
+pub fn write_record(keeping: Keeping, name: &[u8], buf: &mut [u8]) -> RecordAnswer
+    ensures { λ r. ⌜ (r ≡ recordAnswer (formBy (savedBy keeping (now (name .entry)))) (now (buf .entry))) × (now (buf .exit) ≡ recordLeft (formBy (savedBy keeping (now (name .entry)))) (now (buf .entry))) ⌝ }
+{
+    match keeping {
+        Keeping::Nothing => RecordAnswer::NoRecord,
+        Keeping::Of(e) => RecordAnswer::Record(write_entry(e, name, buf)),
+    }
+}
