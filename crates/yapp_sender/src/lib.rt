@@ -93,7 +93,8 @@ impl Sender {
         ensures { λ r. ⌜ r ≡ self .reader .checked ⌝ }
     {
         let reader = self.reader;
-        reader.checked()
+        let checked = reader.checked();
+        checked
     }
 
     // The pending bytes, in which the text to show stands.
@@ -101,7 +102,8 @@ impl Sender {
         ensures { λ r. ⌜ r ≡ self .reader .pending ⌝ }
     {
         let reader = self.reader;
-        reader.pending()
+        let pending = reader.pending();
+        pending
     }
 
     // A chance to send: SI first, then, once the far end has accepted, a block of the file with each call, and EF.
