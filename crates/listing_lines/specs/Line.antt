@@ -5,13 +5,8 @@ use mathlib.Core.List.{List, [], _∷_, _++_}
 use lib.Dec.{eqb}
 use Rattle.fields.specs.Pick.{pick}
 use Rattle.numerals.specs.Writing.{decimal}
-use Rattle.packets.specs.declared.Packet.{Packet}
-use Rattle.packets.specs.Content.{Content, contentOf, unfinished}
+use Rattle.packets.specs.Content.{Content, unfinished}
 use Rattle.packets.specs.Kind.{RR, RF, AF, AT, CA, RT, SI, RI, HD, DT, EF, ET, NR, RE, CN, TX, BadHD, Unreadable, Unfinished, partsOf, look}
-
--- a packet's kind, which does not depend on the bytes at its places
-abbrev pub kindOf : Packet → ℕ
-kindOf p = partsOf (contentOf [] p) .kind
 
 -- the letters of a kind; a malformed header is listed as the HD that it is
 unfoldable pub letters : ℕ → List ℕ

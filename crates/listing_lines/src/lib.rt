@@ -7,34 +7,7 @@ ghost use lib.ListN.{length};
 ghost use Rattle.fields.specs.Buffer.{over, appended, appendedEnd};
 ghost use Rattle.numerals.specs.Writing.{decimal};
 ghost use Rattle.packets.specs.Content.{contentOf};
-ghost use Rattle.listing_lines.specs.Line.{kindOf, letters, overhead, line, lineOf, cut, ending};
-
-// The number of a packet's kind.
-fn kind_of(packet: Packet) -> usize
-    ensures { λ r. ⌜ (r ≡ kindOf packet) × (r ≤ 18) ⌝ }
-{
-    match packet {
-        Packet::RR => 0,
-        Packet::RF => 1,
-        Packet::AF => 2,
-        Packet::AT => 3,
-        Packet::CA => 4,
-        Packet::RT => 5,
-        Packet::SI => 6,
-        Packet::RI(_) => 7,
-        Packet::HD(_) => 8,
-        Packet::DT(_) => 9,
-        Packet::EF => 10,
-        Packet::ET => 11,
-        Packet::NR(_) => 12,
-        Packet::RE(_) => 13,
-        Packet::CN(_) => 14,
-        Packet::TX(_) => 15,
-        Packet::Malformed => 16,
-        Packet::Dropped(_) => 17,
-        Packet::Open => 18,
-    }
-}
+ghost use Rattle.listing_lines.specs.Line.{letters, overhead, line, lineOf, cut, ending};
 
 // The bytes of a packet that are not its data.
 fn overhead_of(kind: usize) -> usize
@@ -85,7 +58,7 @@ fn put_line(out: &mut [u8], offset: u64, kind: usize, count: usize) -> usize
 pub fn put_packet(out: &mut [u8; 32], offset: u64, packet: Packet, size: u16) -> usize
     ensures { λ r. ⌜ (r ≡ length (lineOf offset (contentOf [] packet) size)) × (now (out .exit) ≡ over 0 (lineOf offset (contentOf [] packet) size) (now (out .entry))) ⌝ }
 {
-    let kind = kind_of(packet);
+    let kind = kinds::kind_of(packet);
     let count = data_count(kind, size as usize);
     put_line(out, offset, kind, count)
 }

@@ -172,7 +172,7 @@ pub fn packet(arrow: u8, bytes: &[u8], checked: bool, passed: usize) {
     print_arrow(arrow);
     put_word(
         b"RR|RF|AF|AT|CA|RT|SI|RI|HD|DT|EF|ET|NR|RE|CN|TX|malformed HD|unreadable|unfinished|",
-        yapp::table::kind_of(packet_reader::packet_of(bytes, checked)),
+        kinds::kind_of(packet_reader::packet_of(bytes, checked)),
     );
     print_length(bytes.len(), passed);
 }

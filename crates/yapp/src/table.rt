@@ -3,12 +3,8 @@
 // 14 judge a header, 15 refuse a second file, 16 store, 17 end of file.
 use crate::ReceiverState;
 use crate::SenderState;
-use packets::Packet;
 ghost use mathlib.Core.Path.{_≡_};
-ghost use mathlib.Core.List.{[]};
 ghost use Prim.Native.Nat.{_<_, _≤_};
-ghost use Rattle.packets.specs.Content.{contentOf};
-ghost use Rattle.packets.specs.Kind.{partsOf};
 ghost use Rattle.yapp.specs.Rows.{senderRow, receiverRow};
 ghost use Rattle.yapp.specs.Table.{kinds, columnOf, actionNumber, senderNumber, receiverNumber};
 
@@ -326,31 +322,4 @@ pub fn receive_action(state: ReceiverState, kind: usize) -> u8
     let column = column_of(kind);
     let i = row * KINDS + column;
     RECEIVE[i]
-}
-
-// The number of a packet's kind, which does not depend on the bytes at its places.
-pub fn kind_of(packet: Packet) -> usize
-    ensures { λ r. ⌜ r ≡ partsOf (contentOf [] packet) .kind ⌝ }
-{
-    match packet {
-        Packet::RR => 0,
-        Packet::RF => 1,
-        Packet::AF => 2,
-        Packet::AT => 3,
-        Packet::CA => 4,
-        Packet::RT => 5,
-        Packet::SI => 6,
-        Packet::RI(_) => 7,
-        Packet::HD(_) => 8,
-        Packet::DT(_) => 9,
-        Packet::EF => 10,
-        Packet::ET => 11,
-        Packet::NR(_) => 12,
-        Packet::RE(_) => 13,
-        Packet::CN(_) => 14,
-        Packet::TX(_) => 15,
-        Packet::Malformed => 16,
-        Packet::Dropped(_) => 17,
-        Packet::Open => 18,
-    }
 }

@@ -6,7 +6,6 @@ use reader::Reader;
 use reader::Received;
 use spans::Span;
 use yapp::SenderState;
-use yapp::table;
 ghost use mathlib.Core.Path.{_≡_};
 ghost use lib.ListN.{length, take};
 ghost use Rattle.spans.specs.Span.{sizeOf};
@@ -126,7 +125,7 @@ pub fn shown_in(core: SenderCore, got: Received) -> Place
     let state = core.state;
     if is_sd(state) {
         let packet = got.packet;
-        if table::kind_of(packet) == TX {
+        if kinds::kind_of(packet) == TX {
             let reader = got.reader;
             let found = got.found;
             return text_place(reader, found);

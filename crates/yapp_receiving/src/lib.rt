@@ -113,7 +113,7 @@ fn take_packet(
     ensures { λ r. ⌜ reached (now (name .entry)) (receiverTakes (settingsBy settings) (nowBy current (now (name .entry))) (now (area .entry)) (contentOf (now (pending .entry)) packet)) ≡ reachedBy (now (pending .entry)) (now (name .entry)) r (now (area .exit)) ⌝ }
 {
     let state = current.state;
-    let kind = table::kind_of(packet);
+    let kind = kinds::kind_of(packet);
     let carried = parts::carried_by(packet);
     let action = table::receive_action(state, kind);
     match action {

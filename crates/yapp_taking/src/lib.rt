@@ -152,7 +152,7 @@ pub fn takes(core: SenderCore, checked: bool, got: Received) -> Step
 {
     let packet = got.packet;
     let state = core.state;
-    let kind = table::kind_of(packet);
+    let kind = kinds::kind_of(packet);
     let action = table::send_action(state, kind);
     if action == RESUME {
         return resumes_by(core.resumes, core.size, checked, packet);

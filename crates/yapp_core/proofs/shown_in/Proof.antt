@@ -20,13 +20,13 @@ returns : tie.Need-returns
 unfolding shownIn
 returns c =
     let g = c .before .before .before .before .before .before .args .got in
-    c .text-place .ensures ∙ rw (sym (c .before .before .before .before .before .is-sd .ensures), c .before .before .before .before .if1 .taken, kind-same (g .reader .pending) (g .packet), sym (c .before .before .before .kind-of .ensures), c .before .before .if2 .taken)
+    c .text-place .ensures ∙ rw (sym (c .before .before .before .before .before .is-sd .ensures), c .before .before .before .before .if1 .taken, kind-same (g .reader .pending) (g .packet), sym (c .before .before .before .kind-of .ensures .0), c .before .before .if2 .taken)
 
 returns-2 : tie.Need-returns-2
 unfolding shownIn
 returns-2 c =
     let g = c .before .before .before .before .args .got in
-    rw (sym (c .before .before .before .is-sd .ensures), c .before .before .if1 .taken, kind-same (g .reader .pending) (g .packet), sym (c .before .kind-of .ensures), ne-eqb _ _ (c .if2 .left))
+    rw (sym (c .before .before .before .is-sd .ensures), c .before .before .if1 .taken, kind-same (g .reader .pending) (g .packet), sym (c .before .kind-of .ensures .0), ne-eqb _ _ (c .if2 .left))
 
 returns-3 : tie.Need-returns-3
 unfolding shownIn

@@ -36,7 +36,7 @@ returns : tie.Need-returns
 unfolding receiverDoes actionNumber
 returns c =
     let g = c .before .before .before .before .before .before .before .before .args in
-    ap (reached (now (g .name))) (takes-by (settingsBy (g .settings)) (nowBy (g .current) (now (g .name))) (now (g .area)) (now (g .pending)) (g .packet) (c .before .before .before .carried-by .result) (c .before .before .before .before .kind-of .result) _ judge (c .before .before .before .before .kind-of .ensures) (c .before .before .before .carried-by .ensures) (c .before .before .receive-action .ensures) (c .before .match .keys1))
+    ap (reached (now (g .name))) (takes-by (settingsBy (g .settings)) (nowBy (g .current) (now (g .name))) (now (g .area)) (now (g .pending)) (g .packet) (c .before .before .before .carried-by .result) (c .before .before .before .before .kind-of .result) _ judge (c .before .before .before .before .kind-of .ensures .0) (c .before .before .before .carried-by .ensures) (c .before .before .receive-action .ensures) (c .before .match .keys1))
     ∙ c .judge .ensures (now (g .area))
 
 same-length : tie.Need-same-length
@@ -46,14 +46,14 @@ returns-2 : tie.Need-returns-2
 unfolding receiverDoes actionNumber
 returns-2 c =
     let g = c .before .before .before .before .before .before .before .before .before .before .before .args in
-    ap (reached (now (g .name))) (takes-by (settingsBy (g .settings)) (nowBy (g .current) (now (g .name))) (now (g .area)) (now (g .pending)) (g .packet) (c .before .before .before .before .before .before .carried-by .result) (c .before .before .before .before .before .before .before .kind-of .result) _ store (c .before .before .before .before .before .before .before .kind-of .ensures) (c .before .before .before .before .before .before .carried-by .ensures) (c .before .before .before .before .before .receive-action .ensures) (c .before .before .before .before .match .keys2))
+    ap (reached (now (g .name))) (takes-by (settingsBy (g .settings)) (nowBy (g .current) (now (g .name))) (now (g .area)) (now (g .pending)) (g .packet) (c .before .before .before .before .before .before .carried-by .result) (c .before .before .before .before .before .before .before .kind-of .result) _ store (c .before .before .before .before .before .before .before .kind-of .ensures .0) (c .before .before .before .before .before .before .carried-by .ensures) (c .before .before .before .before .before .receive-action .ensures) (c .before .before .before .before .match .keys2))
     ∙ c .before .before .store-block .ensures (now (g .pending))
 
 returns-3 : tie.Need-returns-3
 unfolding receiverDoes actionNumber
 returns-3 c =
     let g = c .before .before .before .before .before .before .before .before .args in
-    ap (reached (now (g .name))) (takes-by (settingsBy (g .settings)) (nowBy (g .current) (now (g .name))) (now (g .area)) (now (g .pending)) (g .packet) (c .before .before .before .carried-by .result) (c .before .before .before .before .kind-of .result) _ eof (c .before .before .before .before .kind-of .ensures) (c .before .before .before .carried-by .ensures) (c .before .before .receive-action .ensures) (c .before .match .keys3))
+    ap (reached (now (g .name))) (takes-by (settingsBy (g .settings)) (nowBy (g .current) (now (g .name))) (now (g .area)) (now (g .pending)) (g .packet) (c .before .before .before .carried-by .result) (c .before .before .before .before .kind-of .result) _ eof (c .before .before .before .before .kind-of .ensures .0) (c .before .before .before .carried-by .ensures) (c .before .before .receive-action .ensures) (c .before .match .keys3))
     ∙ c .end-file .ensures (now (g .area)) (now (g .pending))
 
 returns-4 : tie.Need-returns-4
@@ -61,7 +61,7 @@ returns-4 c =
     let g = c .before .before .before .before .before .before .before .before .args in
     let no = c .before .match .rest in
     rw (c .act .ensures)
-    (ap (reached (now (g .name))) (takes-is (settingsBy (g .settings)) (nowBy (g .current) (now (g .name))) (now (g .area)) (now (g .pending)) (g .packet) (c .before .before .before .carried-by .result) (c .before .before .before .before .kind-of .result) (c .before .before .before .before .kind-of .ensures) (c .before .before .before .carried-by .ensures))
+    (ap (reached (now (g .name))) (takes-is (settingsBy (g .settings)) (nowBy (g .current) (now (g .name))) (now (g .area)) (now (g .pending)) (g .packet) (c .before .before .before .carried-by .result) (c .before .before .before .before .kind-of .result) (c .before .before .before .before .kind-of .ensures .0) (c .before .before .before .carried-by .ensures))
     ∙ acts-by (g .current) (now (g .name)) (now (g .area)) (now (g .pending)) (settingsBy (g .settings)) (partsBy (now (g .pending)) (c .before .before .before .before .kind-of .result) (c .before .before .before .carried-by .result)) (receiverRow (g .current .state) (c .before .before .before .before .kind-of .result)) _ (c .before .before .receive-action .ensures) (no .0 .0 .1) (no .0 .1) (no .1))
 
 pub take-packet-spec : {M : Type 1} → statement M

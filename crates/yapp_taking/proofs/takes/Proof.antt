@@ -13,12 +13,12 @@ send-action-requires c κs = search needs
 resumes-by-requires : tie.Need-resumes-by-requires
 resumes-by-requires c κs =
     let a = c .before .before .before .args in
-    resumes-re (a .core .state) _ _ (a .got .packet) (c .before .before .kind-of .ensures) (c .before .send-action .ensures) (c .if1 .taken)
+    resumes-re (a .core .state) _ _ (a .got .packet) (c .before .before .kind-of .ensures .0) (c .before .send-action .ensures) (c .if1 .taken)
 
 returns : tie.Need-returns
 returns c =
     let a = c .before .before .before .before .args in
-    λ s file p q. takes-resume (a .core .state) _ _ (a .got .packet) (c .before .before .before .kind-of .ensures) (c .before .before .send-action .ensures) s file (a .got .reader .pending) (a .checked) (c .resumes-by .result) (c .before .if1 .taken) (c .resumes-by .ensures s file (a .got .reader .pending) p q)
+    λ s file p q. takes-resume (a .core .state) _ _ (a .got .packet) (c .before .before .before .kind-of .ensures .0) (c .before .before .send-action .ensures) s file (a .got .reader .pending) (a .checked) (c .resumes-by .result) (c .before .if1 .taken) (c .resumes-by .ensures s file (a .got .reader .pending) p q)
 
 step-by-requires : tie.Need-step-by-requires
 step-by-requires c κs = search needs
@@ -26,7 +26,7 @@ step-by-requires c κs = search needs
 returns-2 : tie.Need-returns-2
 returns-2 c =
     let a = c .before .before .before .before .args in
-    λ s file p q. takes-other (a .core .state) _ _ (a .got .packet) (c .before .before .before .kind-of .ensures) (c .before .before .send-action .ensures) s file (a .got .reader .pending) (a .checked) (c .step-by .result) (c .before .if1 .left) (c .step-by .ensures)
+    λ s file p q. takes-other (a .core .state) _ _ (a .got .packet) (c .before .before .before .kind-of .ensures .0) (c .before .before .send-action .ensures) s file (a .got .reader .pending) (a .checked) (c .step-by .result) (c .before .if1 .left) (c .step-by .ensures)
 
 pub takes-spec : {M : Type 1} → statement M
 takes-spec =

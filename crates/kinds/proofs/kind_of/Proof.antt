@@ -1,12 +1,12 @@
--- `listing_lines::kind_of` meets its contract: by the packet.
+-- `kinds::kind_of` meets its contract: by the packet.
 -- Assumes nothing.
 use mathlib.Core.Path.{refl}
 use native.Mathlib.Omega.{arith}
 use Rattle.packets.specs.Content.{contentOf}
 use Rattle.packets.specs.Kind.{partsOf}
 use borrow.Author.Needs.{needs}
-use Rattle.listing_lines.proofs.kind_of.Statement.{statement}
-use Rattle.listing_lines.proofs.kind_of.Tie as tie
+use Rattle.kinds.proofs.kind_of.Statement.{statement}
+use Rattle.kinds.proofs.kind_of.Tie as tie
 
 enum-told : tie.Need-enum-told
 enum-told c = search needs

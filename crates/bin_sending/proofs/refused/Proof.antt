@@ -1,0 +1,10 @@
+-- `refused` leaves the state. Assumes nothing.
+use borrow.Author.Needs.{needs}
+use Rattle.bin_sending.proofs.refused.Statement.{statement}
+use Rattle.bin_sending.proofs.refused.Tie as tie
+
+returns : tie.Need-returns
+returns c = search needs
+
+pub refused-spec : {M : Type 1} → statement M
+refused-spec = tie.close (tie.spec returns)

@@ -1,0 +1,10 @@
+-- `stops` sends the stop frame and ends. Assumes nothing.
+use borrow.Author.Needs.{needs}
+use Rattle.bin_sending.proofs.stops.Statement.{statement}
+use Rattle.bin_sending.proofs.stops.Tie as tie
+
+returns : tie.Need-returns
+returns c = search needs
+
+pub stops-spec : {M : Type 1} → statement M
+stops-spec = tie.close (tie.spec returns)
