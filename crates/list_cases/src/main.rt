@@ -41,46 +41,86 @@ fn start(title: &[u8]) -> Lister {
     Lister::new()
 }
 
-fn list(title: &[u8], s: &[u8]) {
-    let l = start(title);
-    write_end(feed(l, s));
+// A case is its title's line and behind it the capture.
+fn list(case: &[u8]) {
+    let at = fields::find(case, b'\n') + 1;
+    let l = start(fields::part(case, 0, at));
+    write_end(feed(l, fields::part(case, at, case.len())));
 }
 
-// The packet cut behind each of its bytes but the last.
-fn cuts(title: &[u8], packet: &[u8]) {
-    let mut n = 1;
-    while n < packet.len() {
-        list(title, &packet[..n]);
+// The case whose capture is a packet, cut behind each of the packet's bytes but the last.
+fn cuts(case: &[u8]) {
+    let mut n = fields::find(case, b'\n') + 2;
+    while n < case.len() {
+        list(fields::part(case, 0, n));
         n += 1;
     }
 }
 
-fn cut_acknowledgements() {
-    cuts(b"== RR cut\n", b"\x06\x01");
-    cuts(b"== RF cut\n", b"\x06\x02");
-    cuts(b"== AF cut\n", b"\x06\x03");
-    cuts(b"== AT cut\n", b"\x06\x04");
-    cuts(b"== CA cut\n", b"\x06\x05");
-    cuts(b"== RT cut\n", b"\x06\x06");
+fn show(case: &[u8], is_cut: bool) {
+    if is_cut {
+        return cuts(case);
+    }
+    list(case)
 }
 
-fn cut_enquiries() {
-    cuts(b"== SI cut\n", b"\x05\x01");
-    cuts(b"== RI cut\n", b"\x05\x02\x03*.*");
+// Where the case behind starts, at most at the end.
+fn behind(at: usize, case: usize, len: usize) -> usize
+    requires { ⌜ at < len ⌝ }
+    ensures { λ r. ⌜ (at < r) × (r ≤ len) ⌝ }
+{
+    if case < len - at {
+        return at + case + 1;
+    }
+    len
 }
 
-fn cut_file() {
-    cuts(b"== HD cut\n", b"\x01\x0Blot7.csv\x003\x00");
-    cuts(b"== DT cut\n", b"\x02\x03ABC");
-    cuts(b"== EF cut\n", b"\x03\x01");
-    cuts(b"== ET cut\n", b"\x04\x01");
+// Every case of these, with a `~` behind each.
+fn show_all(cases: &[u8], are_cut: bool) {
+    let mut at = 0;
+    while at < cases.len() {
+        let rest = fields::part(cases, at, cases.len());
+        let n = fields::find(rest, b'~');
+        show(fields::part(rest, 0, n), are_cut);
+        at = behind(at, n, cases.len());
+    }
 }
 
-fn cut_texts() {
-    cuts(b"== NR cut\n", b"\x15\x03one");
-    cuts(b"== RE cut\n", b"\x15\x05R\x0044\x00");
-    cuts(b"== CN cut\n", b"\x18\x04stop");
-    cuts(b"== TX cut\n", b"\x10\x02hi");
+fn captures() {
+    show_all(
+        b"== empty\n~\
+          == every kind\n\x06\x01\x06\x02\x06\x03\x06\x04\x06\x05\x06\x06\x05\x01\x05\x02\x03*.*\x01\x0Blot7.csv\x003\x00\x02\x03ABC\x03\x01\x04\x01\x15\x03one\x15\x05R\x0044\x00\x18\x00\x10\x02hi~\
+          == drops\n\x05\x01\x00\x06\x01\xFF\x06\x07\x05\x03\x03\x02\x02\x01A\x04\x02\x06\x00AB\x04\x01~\
+          == resumes\n\x15\x05R\x0044\x00\x15\x07R\x0044\x00C\x00\x15\x0BR\x0012345678\x00~\
+          == not ready\n\x15\x04R\x0044\x15\x00\x15\x06R\x0044\x00C\x15\x0CR\x00123456789\x00\x15\x03R\x00\x00\x15\x08R\x0044\x00C\x00X~\
+          == malformed headers\n\x01\x00\x01\x03abc\x01\x06a/b\x003\x00\x01\x04a\x00x\x00~\
+          == headers with an option\n\x01\x05a\x003\x00z\x01\x0Da\x003\x005A214800\x00~\
+          ",
+        false,
+    );
+}
+
+fn packets() {
+    show_all(
+        b"== RR cut\n\x06\x01~\
+          == RF cut\n\x06\x02~\
+          == AF cut\n\x06\x03~\
+          == AT cut\n\x06\x04~\
+          == CA cut\n\x06\x05~\
+          == RT cut\n\x06\x06~\
+          == SI cut\n\x05\x01~\
+          == RI cut\n\x05\x02\x03*.*~\
+          == HD cut\n\x01\x0Blot7.csv\x003\x00~\
+          == DT cut\n\x02\x03ABC~\
+          == EF cut\n\x03\x01~\
+          == ET cut\n\x04\x01~\
+          == NR cut\n\x15\x03one~\
+          == RE cut\n\x15\x05R\x0044\x00~\
+          == CN cut\n\x18\x04stop~\
+          == TX cut\n\x10\x02hi~\
+          ",
+        true,
+    );
 }
 
 // More bytes than any buffer of this program has: SI, a DT of 256 bytes 20 times, ET.
@@ -99,34 +139,7 @@ fn long() {
 }
 
 fn main() {
-    list(b"== empty\n", b"");
-    list(
-        b"== every kind\n",
-        b"\x06\x01\x06\x02\x06\x03\x06\x04\x06\x05\x06\x06\x05\x01\x05\x02\x03*.*\x01\x0Blot7.csv\x003\x00\x02\x03ABC\x03\x01\x04\x01\x15\x03one\x15\x05R\x0044\x00\x18\x00\x10\x02hi",
-    );
-    list(
-        b"== drops\n",
-        b"\x05\x01\x00\x06\x01\xFF\x06\x07\x05\x03\x03\x02\x02\x01A\x04\x02\x06\x00AB\x04\x01",
-    );
-    list(
-        b"== resumes\n",
-        b"\x15\x05R\x0044\x00\x15\x07R\x0044\x00C\x00\x15\x0BR\x0012345678\x00",
-    );
-    list(
-        b"== not ready\n",
-        b"\x15\x04R\x0044\x15\x00\x15\x06R\x0044\x00C\x15\x0CR\x00123456789\x00\x15\x03R\x00\x00\x15\x08R\x0044\x00C\x00X",
-    );
-    list(
-        b"== malformed headers\n",
-        b"\x01\x00\x01\x03abc\x01\x06a/b\x003\x00\x01\x04a\x00x\x00",
-    );
-    list(
-        b"== headers with an option\n",
-        b"\x01\x05a\x003\x00z\x01\x0Da\x003\x005A214800\x00",
-    );
-    cut_acknowledgements();
-    cut_enquiries();
-    cut_file();
-    cut_texts();
+    captures();
+    packets();
     long();
 }

@@ -3,15 +3,11 @@
 use bin::ReceiverState;
 use bin::SenderState;
 use bin_receiver::Receiver;
+use bin_receiver::ReceiverAnswer;
 use bin_sender::Sender;
+use bin_sender::SenderAnswer;
 use calls::Outcome;
 use libc::STDOUT_FILENO;
-
-struct Ends {
-    sender: Sender,
-    receiver: Receiver,
-    area: [u8; 32],
-}
 
 fn put(s: &[u8]) {
     io::write_all(STDOUT_FILENO, s);
@@ -42,50 +38,39 @@ fn put_frame(s: &[u8]) {
     }
 }
 
-fn begin(size: usize, block: usize) -> Ends {
-    Ends {
-        sender: Sender::begin(b"abc.txt", size, block, 0x5A21_4800, true),
-        receiver: Receiver::fresh(32, true),
-        area: [0xEE; 32],
+// A frame of the file; what is sent in the first turn is the line.
+fn put_sent(turn: usize, s: &[u8]) {
+    if 0 < turn {
+        put_frame(s);
     }
 }
 
-// The receiver gets a frame, and the sender what it answers.
-fn answer(e: Ends, frame: &[u8], file: &[u8]) -> Ends {
-    let mut reply = [0u8; 259];
-    let mut unused = [0u8; 259];
-    let mut area = e.area;
-    let r = e.receiver;
-    let s = e.sender;
-    let got = r.receive(frame, &mut area, &mut reply);
-    let heard = s.receive(fields::part(&reply, 0, got.sent), file, &mut unused);
-    let sender = heard.sender;
-    let receiver = got.receiver;
-    Ends {
-        sender,
-        receiver,
-        area,
+// The sender gets the answer; where nothing was answered, it may send.
+fn send(
+    m: Sender,
+    answered: usize,
+    back: &[u8; 259],
+    file: &[u8],
+    out: &mut [u8; 259],
+) -> SenderAnswer {
+    if answered == 0 {
+        return m.transmit(file, out);
     }
+    m.receive(fields::part(back, 0, answered), file, out)
 }
 
-// A leave, what is sent shown where it is file, and the answer to it.
-fn pass(e: Ends, file: &[u8], shown: bool) -> Ends {
-    let mut frame = [0u8; 259];
-    let s = e.sender;
-    let receiver = e.receiver;
-    let area = e.area;
-    let left = s.transmit(file, &mut frame);
-    let sender = left.sender;
-    let sent = fields::part(&frame, 0, left.sent);
-    if shown {
-        put_frame(sent);
-    }
-    let next = Ends {
-        sender,
-        receiver,
-        area,
-    };
-    answer(next, sent, file)
+// The receiver gets what was sent.
+fn take(
+    m: Receiver,
+    turn: usize,
+    sent: usize,
+    to: &[u8; 259],
+    area: &mut [u8; 32],
+    out: &mut [u8; 259],
+) -> ReceiverAnswer {
+    let frame = fields::part(to, 0, sent);
+    put_sent(turn, frame);
+    m.receive(frame, area, out)
 }
 
 fn is_success(outcome: Outcome) -> bool {
@@ -109,36 +94,42 @@ fn is_received(state: ReceiverState) -> bool {
     }
 }
 
-fn is_whole(e: Ends, file: &[u8]) -> bool {
-    let area = e.area;
-    let s = e.sender;
-    let r = e.receiver;
+fn is_whole(sender: Sender, receiver: Receiver, area: [u8; 32], file: &[u8]) -> bool {
     let mut want = [0xEE; 32];
     buffers::append_bytes(&mut want, 0, file);
-    if is_sent(s.state()) {
-        if is_received(r.state()) {
+    if is_sent(sender.state()) {
+        if is_received(receiver.state()) {
             return names::same(&area, &want);
         }
     }
     false
 }
 
-// The line first, then as many leaves as the file has bytes: at least as many as it has frames.
-fn session(file: &[u8], block: usize) -> Ends {
-    let mut e = pass(begin(file.len(), block), file, false);
-    let mut i = 0;
-    while i < file.len() {
-        e = pass(e, file, true);
-        i += 1;
+// The line, a turn to hear what came of it, and a turn for each frame: a file has at most 27 bytes.
+fn session(file: &[u8], block: usize) -> bool {
+    let mut sender = Sender::begin(b"abc.txt", file.len(), block, 0x5A21_4800, true);
+    let mut receiver = Receiver::fresh(32, true);
+    let mut area = [0xEE; 32];
+    let mut to = [0u8; 259];
+    let mut back = [0u8; 259];
+    let mut answered = 0;
+    let mut turn: usize = 0;
+    while turn < 29 {
+        let a = send(sender, answered, &back, file, &mut to);
+        sender = a.sender;
+        let b = take(receiver, turn, a.sent, &to, &mut area, &mut back);
+        receiver = b.receiver;
+        answered = b.sent;
+        turn += 1;
     }
-    e
+    is_whole(sender, receiver, area, file)
 }
 
 fn show(file: &[u8], block: usize) {
     put(b"block ");
     io::print_decimal(STDOUT_FILENO, block as u64);
     put(b":");
-    if is_whole(session(file, block), file) {
+    if session(file, block) {
         put(b"; whole\n");
     } else {
         put(b"; not whole\n");

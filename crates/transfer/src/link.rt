@@ -15,6 +15,14 @@ pub struct Saved {
     pub whole: bool,
 }
 
+// A link that breaks after so many bytes.
+pub fn whole(left: usize) -> Link {
+    Link {
+        left,
+        broken: false,
+    }
+}
+
 // The link after n bytes were sent over it.
 pub fn after(link: Link, n: usize) -> Link {
     if n <= link.left {
@@ -29,14 +37,6 @@ pub fn after(link: Link, n: usize) -> Link {
     }
 }
 
-// Whether nothing goes over the link: there is nothing to send, or the link is broken.
-pub fn is_idle(link: Link, sent: usize) -> bool {
-    if sent == 0 {
-        return true;
-    }
-    link.broken
-}
-
 // Whether a session is over: the link is broken, or both ends have ended.
 pub fn is_over(link: Link, sender_at: usize, receiver_at: usize) -> bool {
     if link.broken {
@@ -48,20 +48,20 @@ pub fn is_over(link: Link, sender_at: usize, receiver_at: usize) -> bool {
     false
 }
 
-// What passes of a packet, which is shown: as many bytes as the link still carries.
-pub fn packet(link: Link, arrow: u8, checked: bool, bytes: &[u8]) -> &[u8] {
-    let passed = fields::part(bytes, 0, link.left);
-    text::packet(arrow, bytes, checked, passed.len());
+// What passes of a packet of n bytes, which is shown: as many bytes as the link still carries.
+pub fn packet(link: Link, arrow: u8, checked: bool, bytes: &[u8], n: usize) -> &[u8] {
+    let passed = fields::part(fields::part(bytes, 0, n), 0, link.left);
+    if 0 < n {
+        text::packet(arrow, fields::part(bytes, 0, n), checked, passed.len());
+    }
     passed
 }
 
-// What passes of a frame, which is shown: all of it, or none.
-pub fn frame(link: Link, arrow: u8, is_data: bool, bytes: &[u8]) -> &[u8] {
-    let n = if bytes.len() <= link.left {
-        bytes.len()
-    } else {
-        0
-    };
-    text::frame(arrow, bytes, is_data, n);
-    fields::part(bytes, 0, n)
+// What passes of a frame of n bytes, which is shown: all of it, or none.
+pub fn frame(link: Link, arrow: u8, is_data: bool, bytes: &[u8], n: usize) -> &[u8] {
+    let passed = if n <= link.left { n } else { 0 };
+    if 0 < n {
+        text::frame(arrow, fields::part(bytes, 0, n), is_data, passed);
+    }
+    fields::part(bytes, 0, passed)
 }

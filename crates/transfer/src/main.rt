@@ -22,12 +22,12 @@ const LARGEST: usize = 1_048_576;
 // How often the link breaks at the most, in each transfer.
 const BREAKS: u32 = 3;
 
-// By which protocol a session goes.
-enum Way {
-    Yapp,
-    YappC,
-    Bin,
-}
+// By which protocol a session goes: the places of their names.
+const YAPP: usize = 0;
+
+const YAPPC: usize = 1;
+
+const BIN: usize = 2;
 
 // One byte more than the largest file, so that a larger one shows.
 fn file_space() -> [u8; 1048577]
@@ -58,37 +58,26 @@ fn pick(seed: u64, most: usize) -> usize {
     if n < most { n + 1 } else { 1 }
 }
 
-fn pick_way(own: Way, seed: u64) -> Way {
+fn pick_way(own: usize, seed: u64) -> usize {
     if seed / 65_536 % 2 == 0 {
-        return Way::Bin;
+        return BIN;
     }
-    match own {
-        Way::Yapp => Way::Yapp,
-        Way::YappC => Way::YappC,
-        Way::Bin => Way::YappC,
+    if own == BIN {
+        return YAPPC;
     }
+    own
 }
 
-fn place_of(way: Way) -> usize {
-    match way {
-        Way::Yapp => 0,
-        Way::YappC => 1,
-        Way::Bin => 2,
-    }
-}
-
-fn print_way(label: &[u8], way: Way) {
-    put(label);
-    put_word(b"YAPP|YappC|#BIN#|", place_of(way));
+fn print_way(way: usize) {
+    put_word(b"YAPP|YappC|#BIN#|", way);
 }
 
 // ---- Sessions
 
 fn print_good(len: usize, kept: u32, size: u32) {
-    put_number(b"  record of ", len);
-    put_number(b" bytes: kept ", kept as usize);
-    put_number(b" of ", size as usize);
-    put(b"\n");
+    put_number(b"  record of | bytes: kept |", len);
+    put_number(b"| of |", kept as usize);
+    put_number(b"|\n|", size as usize);
 }
 
 fn print_read(len: usize, read: RecordRead) {
@@ -106,7 +95,7 @@ fn print_record(bytes: &[u8]) {
 }
 
 fn by(
-    way: Way,
+    way: usize,
     bytes: &mut [u8],
     count: usize,
     name: &[u8],
@@ -114,19 +103,17 @@ fn by(
     file: &[u8],
     area: &mut [u8],
 ) -> Saved {
-    let place = place_of(way);
-    if place == 2 {
+    if way == BIN {
         return bin_link::session(bytes, count, name, left, file, area);
     }
-    yapp_link::session(bytes, count, place == 1, name, left, file, area)
+    yapp_link::session(bytes, count, way == YAPPC, name, left, file, area)
 }
 
-fn print_session(number: u32, way: Way, left: usize) {
-    put_number(b"\nsession ", number as usize);
-    print_way(b" by ", way);
+fn print_session(number: u32, way: usize, left: usize) {
+    put_number(b"\nsession | by |", number as usize);
+    print_way(way);
     if number <= BREAKS {
-        put_number(b", the link breaks after ", left);
-        return put(b" bytes\n");
+        return put_number(b", the link breaks after | bytes\n|", left);
     }
     put(b"\n");
 }
@@ -139,7 +126,7 @@ fn left_of(number: u32, seed: u64, size: usize) -> usize {
     usize::MAX
 }
 
-fn way_of(number: u32, own: Way, seed: u64) -> Way {
+fn way_of(number: u32, own: usize, seed: u64) -> usize {
     if number == 1 {
         return own;
     }
@@ -149,7 +136,7 @@ fn way_of(number: u32, own: Way, seed: u64) -> Way {
 // The session with this number: two numbers of the seed's sequence pick its protocol and where the link breaks.
 fn session(
     number: u32,
-    own: Way,
+    own: usize,
     seed: u64,
     bytes: &mut [u8],
     count: usize,
@@ -164,7 +151,7 @@ fn session(
 }
 
 // Sessions until the file is whole.
-fn sessions(own: Way, seed: u64, name: &[u8], file: &[u8], area: &mut [u8]) {
+fn sessions(own: usize, seed: u64, name: &[u8], file: &[u8], area: &mut [u8]) {
     let mut space = [0; 81];
     let bytes: &mut [u8] = &mut space;
     let mut state = next(seed);
@@ -182,11 +169,11 @@ fn sessions(own: Way, seed: u64, name: &[u8], file: &[u8], area: &mut [u8]) {
     }
 }
 
-fn print_title(own: Way, name: &[u8], size: usize) {
+fn print_title(own: usize, name: &[u8], size: usize) {
     put(b"\n");
     put(name);
-    put_number(b", ", size);
-    print_way(b" bytes, by ", own);
+    put_number(b", | bytes, by |", size);
+    print_way(own);
     put(b"\n");
 }
 
@@ -197,7 +184,7 @@ fn print_compared(area: &[u8], file: &[u8]) {
     put(b"THE AREA DIFFERS FROM THE FILE\n");
 }
 
-fn transfer(own: Way, seed: u64, name: &[u8], file: &[u8]) {
+fn transfer(own: usize, seed: u64, name: &[u8], file: &[u8]) {
     let mut space = area_space();
     let area: &mut [u8] = &mut space;
     print_title(own, name, file.len());
@@ -230,9 +217,9 @@ fn say(what: &[u8], path: &[u8]) {
 }
 
 fn all_ways(name: &[u8], seed: u64, file: &[u8]) {
-    transfer(Way::Yapp, seed, name, file);
-    transfer(Way::YappC, seed, name, file);
-    transfer(Way::Bin, seed, name, file);
+    transfer(YAPP, seed, name, file);
+    transfer(YAPPC, seed, name, file);
+    transfer(BIN, seed, name, file);
 }
 
 fn try_all(path: &[u8], seed: u64, file: &[u8]) {

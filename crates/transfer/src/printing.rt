@@ -5,11 +5,6 @@ pub fn put(s: &[u8]) {
     io::write_all(STDOUT_FILENO, s);
 }
 
-pub fn put_number(label: &[u8], n: usize) {
-    put(label);
-    io::print_decimal(STDOUT_FILENO, n as u64);
-}
-
 // The word with this number, from 0 on; a bar stands behind each word.
 pub fn put_word(words: &[u8], number: usize) {
     let mut rest = words;
@@ -20,4 +15,11 @@ pub fn put_word(words: &[u8], number: usize) {
         i += 1;
     }
     put(fields::part(rest, 0, fields::find(rest, b'|')));
+}
+
+// A number behind the first word, and then the second.
+pub fn put_number(words: &[u8], n: usize) {
+    put_word(words, 0);
+    io::print_decimal(STDOUT_FILENO, n as u64);
+    put_word(words, 1);
 }

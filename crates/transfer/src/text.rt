@@ -11,10 +11,15 @@ use yapp::SenderState;
 ghost use Prim.Native.Nat.{_≤_};
 
 // An end that ended with success, as the four functions below number it.
-pub const SUCCESS: usize = 192;
+pub const SUCCESS: usize = 480;
+
+// The two ends.
+pub const SENDER: usize = 0;
+
+pub const RECEIVER: usize = 1;
 
 // A #BIN# sender in the midst of the file.
-pub const SENDING: usize = 384;
+pub const SENDING: usize = 320;
 
 // Document 01's number of an outcome.
 fn outcome_number(outcome: Outcome) -> usize
@@ -73,15 +78,11 @@ fn print_outcome(number: usize) {
 
 // A state's number is the place of its word times 32, and the outcome's number where it has one.
 fn print_state(number: usize) {
-    let place = number / 32;
     put_word(
-        b"S|SH|SD|SE|ST|CW, |ended, |R|RH|RD|start|wait|send|waiting|basic|extended|",
-        place,
+        b"S|SH|SD|SE|ST|R|RH|RD|start|wait|send|waiting|basic|extended|CW, |ended, |",
+        number / 32,
     );
-    if place == 5 {
-        return print_outcome(number % 32);
-    }
-    if place == 6 {
+    if 448 <= number {
         print_outcome(number % 32);
     }
 }
@@ -93,73 +94,63 @@ pub fn sender_number(state: SenderState) -> usize {
         SenderState::SD { .. } => 64,
         SenderState::SE => 96,
         SenderState::ST => 128,
-        SenderState::CW { outcome } => 160 + outcome_number(outcome),
-        SenderState::Ended { outcome } => 192 + outcome_number(outcome),
+        SenderState::CW { outcome } => 448 + outcome_number(outcome),
+        SenderState::Ended { outcome } => 480 + outcome_number(outcome),
     }
 }
 
 pub fn receiver_number(state: ReceiverState) -> usize {
     match state {
-        ReceiverState::R => 224,
-        ReceiverState::RH { whole: _ } => 256,
-        ReceiverState::RD => 288,
-        ReceiverState::CW { outcome } => 160 + outcome_number(outcome),
-        ReceiverState::Ended { outcome } => 192 + outcome_number(outcome),
+        ReceiverState::R => 160,
+        ReceiverState::RH { whole: _ } => 192,
+        ReceiverState::RD => 224,
+        ReceiverState::CW { outcome } => 448 + outcome_number(outcome),
+        ReceiverState::Ended { outcome } => 480 + outcome_number(outcome),
     }
 }
 
 pub fn bin_sender_number(state: BinSenderState) -> usize {
     match state {
-        BinSenderState::Start => 320,
-        BinSenderState::Wait => 352,
-        BinSenderState::Send { at: _ } => 384,
-        BinSenderState::Ended { outcome } => 192 + outcome_number(outcome),
+        BinSenderState::Start => 256,
+        BinSenderState::Wait => 288,
+        BinSenderState::Send { at: _ } => 320,
+        BinSenderState::Ended { outcome } => 480 + outcome_number(outcome),
     }
 }
 
 pub fn bin_receiver_number(state: BinReceiverState) -> usize {
     match state {
-        BinReceiverState::Waiting => 416,
-        BinReceiverState::Basic { .. } => 448,
-        BinReceiverState::Extended { crc: _ } => 480,
-        BinReceiverState::Ended { outcome } => 192 + outcome_number(outcome),
+        BinReceiverState::Waiting => 352,
+        BinReceiverState::Basic { .. } => 384,
+        BinReceiverState::Extended { crc: _ } => 416,
+        BinReceiverState::Ended { outcome } => 480 + outcome_number(outcome),
     }
 }
 
 // Whether a state is an end, whatever the outcome.
 pub fn is_end(number: usize) -> bool {
-    number / 32 == 6
+    480 <= number
 }
 
-// An end's step from one state to another, which is handed back.
-fn moved(who: &[u8], before: usize, after: usize) -> usize {
+// An end's step from one state to another.
+pub fn moved(who: usize, before: usize, after: usize) {
     if before / 32 == after / 32 {
-        return after;
+        return;
     }
-    put(who);
+    put_word(b"    sender |    receiver |", who);
     print_state(before);
     put(b" to ");
     print_state(after);
     put(b"\n");
-    after
-}
-
-pub fn sender_moved(before: usize, after: usize) -> usize {
-    moved(b"    sender ", before, after)
-}
-
-pub fn receiver_moved(before: usize, after: usize) -> usize {
-    moved(b"    receiver ", before, after)
 }
 
 // Of how many bytes it is, and how many of them passed before the link broke.
 fn print_length(n: usize, passed: usize) {
-    put_number(b" ", n);
     if n == passed {
-        return put(b" bytes\n");
+        return put_number(b" | bytes\n|", n);
     }
-    put_number(b" bytes, the link breaks after ", passed);
-    put(b"\n");
+    put_number(b" | bytes, the link breaks after |", n);
+    put_number(b"|\n|", passed);
 }
 
 fn print_arrow(arrow: u8) {

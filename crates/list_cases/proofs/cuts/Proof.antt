@@ -1,29 +1,34 @@
--- `list_cases::cuts` is safe and ends: n grows to the packet's length.
+-- `list_cases::cuts` is safe and ends: n grows to the case's length.
 -- Assumes nothing.
 use Prim.Native.Nat.{_-_}
-use lib.ListN.{length, length-take}
-use native.Mathlib.Omega.{arith}
+use lib.ListN.{length}
 use borrow.Author.Needs.{needs}
 use Rattle.list_cases.proofs.cuts.Statement.{statement}
 use Rattle.list_cases.proofs.cuts.Tie as tie
 
 abbrev Inv-loop : tie.InvT-loop
-Inv-loop title packet n₀ n = Unit {0}
+Inv-loop case n₀ n = Unit {0}
 
 abbrev μ-loop : tie.MeasureT-loop
-μ-loop title packet n₀ n = length packet - n
+μ-loop case n₀ n = length case - n
+
+find-requires : tie.Need-find-requires Inv-loop μ-loop
+find-requires c κs = search needs
+
+add-n : tie.Need-add-n Inv-loop μ-loop
+add-n c = search needs
 
 loop-holds : tie.Need-loop-holds Inv-loop μ-loop
 loop-holds c = search needs
 
-slice-aggregate-list : tie.Need-slice-aggregate-list Inv-loop μ-loop
-slice-aggregate-list c = simp length-take (omega arith)
+part-requires : tie.Need-part-requires Inv-loop μ-loop
+part-requires c κs = search needs
 
 list-requires : tie.Need-list-requires Inv-loop μ-loop
 list-requires c κs = search needs
 
-add-n : tie.Need-add-n Inv-loop μ-loop
-add-n c = search needs
+add-n-2 : tie.Need-add-n-2 Inv-loop μ-loop
+add-n-2 c = search needs
 
 loop-less : tie.Need-loop-less Inv-loop μ-loop
 loop-less c = search needs
@@ -40,10 +45,12 @@ cuts-spec =
     (tie.spec
     Inv-loop
     μ-loop
-    loop-holds
-    slice-aggregate-list
-    list-requires
+    find-requires
     add-n
+    loop-holds
+    part-requires
+    list-requires
+    add-n-2
     loop-less
     loop-again
     returns)

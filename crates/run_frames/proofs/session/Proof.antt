@@ -1,36 +1,44 @@
 -- The loop of `session` ends. Assumes nothing.
 use Prim.Native.Nat.{_≤_, _-_}
-use lib.ListN.{length}
 use borrow.Author.Needs.{needs}
 use Rattle.run_frames.proofs.session.Statement.{statement}
 use Rattle.run_frames.proofs.session.Tie as tie
 
 abbrev Inv-loop : tie.InvT-loop
-Inv-loop file block e₀ i₀ e i = i ≤ length file
+Inv-loop file block sender₀ receiver₀ area₀ to₀ back₀ answered₀ turn₀ sender receiver area to back answered turn = turn ≤ 29
 
 abbrev μ-loop : tie.MeasureT-loop
-μ-loop file block e₀ i₀ e i = length file - i
+μ-loop file block sender₀ receiver₀ area₀ to₀ back₀ answered₀ turn₀ sender receiver area to back answered turn = 29 - turn
+
+slice-aggregate-begin : tie.Need-slice-aggregate-begin Inv-loop μ-loop
+slice-aggregate-begin c = search needs
 
 begin-requires : tie.Need-begin-requires Inv-loop μ-loop
 begin-requires c κs = search needs
 
-pass-requires : tie.Need-pass-requires Inv-loop μ-loop
-pass-requires c κs = search needs
+fresh-requires : tie.Need-fresh-requires Inv-loop μ-loop
+fresh-requires c κs = search needs
 
 loop-holds : tie.Need-loop-holds Inv-loop μ-loop
 loop-holds c = search needs
 
-pass-requires-2 : tie.Need-pass-requires-2 Inv-loop μ-loop
-pass-requires-2 c κs = search needs
+send-requires : tie.Need-send-requires Inv-loop μ-loop
+send-requires c κs = search needs
 
-add-i : tie.Need-add-i Inv-loop μ-loop
-add-i c = search needs
+take-requires : tie.Need-take-requires Inv-loop μ-loop
+take-requires c κs = search needs
+
+add-turn : tie.Need-add-turn Inv-loop μ-loop
+add-turn c = search (needs, c .before .before .before .before .before .before .before .before .before .loop-test .taken)
 
 loop-less : tie.Need-loop-less Inv-loop μ-loop
-loop-less c = search needs
+loop-less c = search (needs, c .before .before .before .before .before .before .before .before .before .loop-test .taken)
 
 loop-again : tie.Need-loop-again Inv-loop μ-loop
-loop-again c = search needs
+loop-again c = search (needs, c .before .before .before .before .before .before .before .before .before .loop-test .taken)
+
+is-whole-requires : tie.Need-is-whole-requires Inv-loop μ-loop
+is-whole-requires c κs = search needs
 
 returns : tie.Need-returns Inv-loop μ-loop
 returns c = search needs
@@ -41,11 +49,14 @@ session-spec =
     (tie.spec
     Inv-loop
     μ-loop
+    slice-aggregate-begin
     begin-requires
-    pass-requires
+    fresh-requires
     loop-holds
-    pass-requires-2
-    add-i
+    send-requires
+    take-requires
+    add-turn
     loop-less
     loop-again
+    is-whole-requires
     returns)
