@@ -8,7 +8,6 @@ use yapp_calls::Answer;
 use yapp_calls::Event;
 use yapp_steps::ReceiverCore;
 ghost use mathlib.Core.Path.{_≡_};
-ghost use Rattle.fields.specs.Buffer.{appended};
 ghost use Rattle.calls.specs.Recording.{recordAnswer, recordLeft};
 ghost use Rattle.yapp_receiver.specs.Receiver.{fresh as freshOf, resume as resumeOf, transmit as transmitOf, receive as receiveOf, timeout as timeoutOf, cancel as cancelOf, recordBy};
 ghost use Rattle.yapp_receiver.specs.Answers.{begunAs, answeredBy, settlesOf};
@@ -30,12 +29,6 @@ pub struct ReceiverAnswer {
     pub stored: usize,
 }
 
-fn keep_name(own: &mut [u8; 64], name: &[u8])
-    ensures { λ _. ⌜ now (own .exit) ≡ appended 0 (now (name .entry)) (now (own .entry)) ⌝ }
-{
-    buffers::append_bytes(own, 0, name);
-}
-
 // A receiver in a state, with a record or none.
 fn begin(
     state: ReceiverState,
@@ -48,7 +41,7 @@ fn begin(
     ensures { λ r. ⌜ r ≡ begunAs state room resumes checks keeping (now (name .entry)) ⌝ }
 {
     let mut own = [0; 64];
-    keep_name(&mut own, name);
+    buffers::append_bytes(&mut own, 0, name);
     let reader = Reader::new(false);
     Receiver {
         reader,
@@ -60,19 +53,6 @@ fn begin(
             checks,
             keeping,
         },
-    }
-}
-
-// A refused call changes nothing.
-fn refused(receiver: Receiver, status: Status) -> ReceiverAnswer
-    ensures { λ r. ⌜ r ≡ record { receiver = receiver; status = status; taken = 0; sent = 0; stored = 0 } ⌝ }
-{
-    ReceiverAnswer {
-        receiver,
-        status,
-        taken: 0,
-        sent: 0,
-        stored: 0,
     }
 }
 
@@ -92,14 +72,18 @@ fn answered(name: [u8; 64], answer: Answer) -> ReceiverAnswer
     }
 }
 
+fn kept(core: ReceiverCore) -> Keeping
+    ensures { λ r. ⌜ r ≡ core .keeping ⌝ }
+{
+    core.keeping
+}
+
 // Timer or operator's stop.
 fn settle(m: Receiver, event: Event, area: &[u8], reply: &mut [u8]) -> ReceiverAnswer
     ensures { λ r. ⌜ settlesOf event m (now (area .entry)) (now (reply .entry)) ≡ record { answer = r; area = now (area .entry); reply = now (reply .exit) } ⌝ }
 {
-    let core = m.core;
-    let reader = m.reader;
     let mut name = m.name;
-    let answer = yapp_calls::settle(event, core, reader, &mut name, area, reply);
+    let answer = yapp_calls::settle(event, m.core, m.reader, &mut name, area, reply);
     answered(name, answer)
 }
 
@@ -130,8 +114,7 @@ impl Receiver {
         let begun = yapp_checks::begin(bytes, room);
         let state = begun.state;
         let keeping = begun.keeping;
-        let place = begun.name;
-        let name = fields::bytes_at(bytes, place);
+        let name = fields::bytes_at(bytes, begun.name);
         begin(state, room, resumes, checks, keeping, name)
     }
 
@@ -139,19 +122,22 @@ impl Receiver {
     pub fn transmit(self, area: &[u8], reply: &mut [u8]) -> ReceiverAnswer
         ensures { λ r. ⌜ transmitOf self (now (area .entry)) (now (reply .entry)) ≡ record { answer = r; area = now (area .entry); reply = now (reply .exit) } ⌝ }
     {
-        let core = self.core;
-        let status = yapp_checks::check(core, area.len(), reply.len());
-        refused(self, status)
+        let status = yapp_checks::check(self.core, area.len(), reply.len());
+        ReceiverAnswer {
+            receiver: self,
+            status,
+            taken: 0,
+            sent: 0,
+            stored: 0,
+        }
     }
 
     // Bytes have arrived.
     pub fn receive(self, chunk: &[u8], area: &mut [u8], reply: &mut [u8]) -> ReceiverAnswer
         ensures { λ r. ⌜ receiveOf self (now (chunk .entry)) (now (area .entry)) (now (reply .entry)) ≡ record { answer = r; area = now (area .exit); reply = now (reply .exit) } ⌝ }
     {
-        let core = self.core;
-        let reader = self.reader;
         let mut name = self.name;
-        let answer = yapp_calls::receive(core, reader, &mut name, chunk, area, reply);
+        let answer = yapp_calls::receive(self.core, self.reader, &mut name, chunk, area, reply);
         answered(name, answer)
     }
 
@@ -173,8 +159,7 @@ impl Receiver {
     pub fn record(self, buf: &mut [u8]) -> RecordAnswer
         ensures { λ r. ⌜ (r ≡ recordAnswer (recordBy self) (now (buf .entry))) × (now (buf .exit) ≡ recordLeft (recordBy self) (now (buf .entry))) ⌝ }
     {
-        let core = self.core;
-        let keeping = core.keeping;
+        let keeping = kept(self.core);
         let name = self.name;
         keeping::write_record(keeping, &name, buf)
     }
@@ -190,7 +175,7 @@ impl Receiver {
     pub fn checked(self) -> bool
         ensures { λ r. ⌜ r ≡ self .reader .checked ⌝ }
     {
-        let reader = self.reader;
-        reader.checked()
+        let checked = self.reader.checked();
+        checked
     }
 }

@@ -21,7 +21,7 @@ same-length c = search needs
 
 returns : tie.Need-returns
 returns c =
-    let a = c .before .before .before .before .before .before .before .before .before .before .before .before .args in
+    let a = c .before .before .before .before .before .before .before .before .before .before .args in
     settle-is (a .m) (now (a .area)) (now (a .reply)) (a .event) ∙ ap afterBy (c .before .before .before .before .settle .ensures) ∙ rw (c .answered .ensures)
 
 pub settle-spec : {M : Type 1} → statement M

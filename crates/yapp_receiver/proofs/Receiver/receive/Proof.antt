@@ -24,7 +24,7 @@ same-length-2 c = search needs
 
 returns : tie.Need-returns
 returns c =
-    let a = c .before .before .before .before .before .before .before .before .before .before .before .before .before .before .before .before .args in
+    let a = c .before .before .before .before .before .before .before .before .before .before .before .before .before .before .args in
     receive-is (a .self) (now (a .area)) (now (a .reply)) (now (a .chunk)) ∙ ap afterBy (c .before .before .before .before .before .before .receive .ensures) ∙ rw (c .answered .ensures)
 
 pub receive-spec : {M : Type 1} → statement M
