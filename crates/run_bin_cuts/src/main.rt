@@ -5,29 +5,21 @@
 use bin::ReceiverState;
 use bin::SenderState;
 use bin_receiver::Receiver;
+use bin_receiver::ReceiverAnswer;
 use bin_sender::Sender;
+use bin_sender::SenderAnswer;
 use calls::Outcome;
 use calls::RecordAnswer;
-use fields::Written;
 use libc::STDOUT_FILENO;
 use numbers::Number;
 ghost use Prim.Native.Nat.{_≤_};
 
-struct Ends {
-    sender: Sender,
-    receiver: Receiver,
-    area: [u8; 32],
-    // What the sender sent last.
-    out: [u8; 259],
-    sent: usize,
-    // How many bytes pass before the link breaks.
-    left: usize,
-}
-
-// A record's bytes, none where there is none.
+// What a session leaves: the area, the record's bytes, none where there is none, and whether both ends ended with success.
 struct Saved {
+    area: [u8; 32],
     bytes: [u8; 81],
     len: usize,
+    success: bool,
 }
 
 fn put(s: &[u8]) {
@@ -55,110 +47,122 @@ fn less(a: usize, b: usize) -> usize {
 
 // ---- A session
 
-fn begin(receiver: Receiver, area: [u8; 32], left: usize) -> Ends {
-    Ends {
-        sender: Sender::begin(b"abc.txt", 20, 8, 0x5A21_4800, true),
-        receiver,
-        area,
-        out: [0; 259],
-        sent: 0,
-        left,
+fn is_success(outcome: Outcome) -> bool {
+    match outcome {
+        Outcome::Success => true,
+        _ => false,
     }
 }
 
-fn leave(e: Ends, file: &[u8]) -> Ends {
-    let mut out = [0u8; 259];
-    let receiver = e.receiver;
-    let area = e.area;
-    let s = e.sender;
-    let got = s.transmit(file, &mut out);
-    let sender = got.sender;
-    Ends {
-        sender,
-        receiver,
-        area,
-        out,
-        sent: got.sent,
-        left: e.left,
+fn is_sent(state: SenderState) -> bool {
+    match state {
+        SenderState::Ended { outcome } => is_success(outcome),
+        _ => false,
     }
 }
 
-// The receiver gets what was sent.
-fn arrive(e: Ends) -> Ends {
-    let mut reply = [0u8; 259];
-    let sender = e.sender;
-    let out = e.out;
-    let mut area = e.area;
-    let r = e.receiver;
-    let through = least(e.sent, e.left);
-    let got = r.receive(fields::part(&out, 0, through), &mut area, &mut reply);
-    let receiver = got.receiver;
-    Ends {
-        sender,
-        receiver,
-        area,
-        out: reply,
-        sent: got.sent,
-        left: less(e.left, through),
+fn is_received(state: ReceiverState) -> bool {
+    match state {
+        ReceiverState::Ended { outcome } => is_success(outcome),
+        _ => false,
     }
 }
 
-// The sender gets what was answered.
-fn back(e: Ends, file: &[u8]) -> Ends {
-    let mut reply = [0u8; 259];
-    let receiver = e.receiver;
-    let area = e.area;
-    let out = e.out;
-    let s = e.sender;
-    let through = least(e.sent, e.left);
-    let got = s.receive(fields::part(&out, 0, through), file, &mut reply);
-    let sender = got.sender;
-    Ends {
-        sender,
-        receiver,
-        area,
-        out: reply,
-        sent: got.sent,
-        left: less(e.left, through),
+fn both(a: bool, b: bool) -> bool {
+    if a {
+        return b;
     }
+    false
 }
-
-fn turn(e: Ends, file: &[u8]) -> Ends {
-    back(arrive(leave(e, file)), file)
-}
-
-// The line and every frame of the file: at most a leave for each byte.
-fn session(begun: Ends, file: &[u8]) -> Ends {
-    let mut e = turn(begun, file);
-    let mut i = 0;
-    while i < file.len() {
-        e = turn(e, file);
-        i += 1;
-    }
-    e
-}
-
-// ---- What is compared
 
 fn count(got: RecordAnswer) -> usize {
     match got {
         RecordAnswer::NoRecord => 0,
-        RecordAnswer::Record(written) => match written {
-            Written::Bytes(n) => n,
-            Written::Small => 0,
-            Written::Formless => 0,
-        },
+        RecordAnswer::Record(written) => calls::count(written),
     }
 }
 
-fn record_of(m: Receiver) -> Saved {
+fn left_by(sender: Sender, receiver: Receiver, area: [u8; 32]) -> Saved {
     let mut bytes = [0u8; 81];
-    let got = m.record(&mut bytes);
+    let got = receiver.record(&mut bytes);
     Saved {
+        area,
         bytes,
         len: count(got),
+        success: both(is_sent(sender.state()), is_received(receiver.state())),
     }
 }
+
+// Before the first session.
+fn nothing() -> Saved {
+    Saved {
+        area: [0xEE; 32],
+        bytes: [0; 81],
+        len: 0,
+        success: false,
+    }
+}
+
+fn receiver_of(s: Saved) -> Receiver {
+    let bytes = s.bytes;
+    if s.len == 0 {
+        return Receiver::fresh(32, true);
+    }
+    Receiver::resume(fields::part(&bytes, 0, s.len), 32, true)
+}
+
+// The sender gets what came of the answer; where nothing was answered, it may send.
+fn send(
+    m: Sender,
+    answered: usize,
+    left: usize,
+    back: &[u8; 259],
+    file: &[u8],
+    out: &mut [u8; 259],
+) -> SenderAnswer {
+    if answered == 0 {
+        return m.transmit(file, out);
+    }
+    m.receive(fields::part(back, 0, least(answered, left)), file, out)
+}
+
+// The receiver gets what came of what was sent.
+fn take(
+    m: Receiver,
+    sent: usize,
+    left: usize,
+    to: &[u8; 259],
+    area: &mut [u8; 32],
+    out: &mut [u8; 259],
+) -> ReceiverAnswer {
+    m.receive(fields::part(to, 0, least(sent, left)), area, out)
+}
+
+// Goes on from what a session left. So many bytes pass before the link breaks.
+// The line, a turn to hear what came of it, and a frame for each of three blocks.
+fn session(before: Saved, bytes: usize, file: &[u8]) -> Saved {
+    let mut receiver = receiver_of(before);
+    let mut sender = Sender::begin(b"abc.txt", 20, 8, 0x5A21_4800, true);
+    let mut area = before.area;
+    let mut to = [0u8; 259];
+    let mut back = [0u8; 259];
+    let mut answered = 0;
+    let mut left = bytes;
+    let mut i: usize = 0;
+    while i < 5 {
+        let a = send(sender, answered, left, &back, file, &mut to);
+        sender = a.sender;
+        left = less(left, answered);
+        let b = take(receiver, a.sent, left, &to, &mut area, &mut back);
+        receiver = b.receiver;
+        answered = b.sent;
+        left = less(left, a.sent);
+        i += 1;
+    }
+    left_by(sender, receiver, area)
+}
+
+// ---- What is compared
 
 // How many bytes a record says are kept.
 fn kept(s: Saved) -> usize
@@ -191,8 +195,8 @@ fn is_of_file(s: Saved) -> bool {
     false
 }
 
-fn is_sound(e: Ends, s: Saved, file: &[u8]) -> bool {
-    let area = e.area;
+fn is_sound(s: Saved, file: &[u8]) -> bool {
+    let area = s.area;
     if s.len == 0 {
         return holds(area, file, 0);
     }
@@ -202,54 +206,17 @@ fn is_sound(e: Ends, s: Saved, file: &[u8]) -> bool {
     false
 }
 
-fn is_success(outcome: Outcome) -> bool {
-    match outcome {
-        Outcome::Success => true,
-        _ => false,
-    }
-}
-
-fn is_sent(state: SenderState) -> bool {
-    match state {
-        SenderState::Ended { outcome } => is_success(outcome),
-        _ => false,
-    }
-}
-
-fn is_received(state: ReceiverState) -> bool {
-    match state {
-        ReceiverState::Ended { outcome } => is_success(outcome),
-        _ => false,
-    }
-}
-
 // Whether the session is at its end and the file whole.
-fn is_whole(e: Ends, file: &[u8]) -> bool {
-    let s = e.sender;
-    let r = e.receiver;
-    let own = record_of(r);
-    if is_sent(s.state()) {
-        if is_received(r.state()) {
-            if kept(own) == file.len() {
-                return is_sound(e, own, file);
-            }
+fn is_whole(s: Saved, file: &[u8]) -> bool {
+    if s.success {
+        if kept(s) == file.len() {
+            return is_sound(s, file);
         }
     }
     false
 }
 
 // ---- The cuts
-
-// Goes on where the first session was cut, with its record if there is one.
-fn resume(e: Ends, s: Saved, file: &[u8]) -> Ends {
-    let area = e.area;
-    let bytes = s.bytes;
-    if s.len == 0 {
-        return session(begin(Receiver::fresh(32, true), area, 1_000_000), file);
-    }
-    let receiver = Receiver::resume(fields::part(&bytes, 0, s.len), 32, true);
-    session(begin(receiver, area, 1_000_000), file)
-}
 
 // 0 for no record, else one more than is kept.
 fn told(s: Saved) -> usize {
@@ -271,35 +238,31 @@ fn show(at: usize, s: Saved) {
     put(b"\n");
 }
 
-// The session cut behind this many bytes.
-fn broken(at: usize, file: &[u8]) -> Ends {
-    session(begin(Receiver::fresh(32, true), [0xEE; 32], at), file)
-}
-
 // What came of a cut: what its record told, and whether all was whole.
 struct Cut {
     told: usize,
     whole: bool,
 }
 
-fn is_resumed(e: Ends, s: Saved, file: &[u8]) -> bool {
-    if is_sound(e, s, file) {
-        return is_whole(resume(e, s, file), file);
+// Goes on where the first session was cut, with its record if there is one.
+fn is_resumed(s: Saved, file: &[u8]) -> bool {
+    if is_sound(s, file) {
+        return is_whole(session(s, 1_000_000, file), file);
     }
     false
 }
 
-// Shows the record where it told something else before.
+// The session cut behind this many bytes. Shows the record where it told something else before.
 fn try_cut(at: usize, before: usize, file: &[u8]) -> Cut {
-    let e = broken(at, file);
-    let r = e.receiver;
-    let s = record_of(r);
+    let s = session(nothing(), at, file);
     let now = told(s);
     if now != before {
         show(at, s);
     }
-    let whole = is_resumed(e, s, file);
-    Cut { told: now, whole }
+    Cut {
+        told: now,
+        whole: is_resumed(s, file),
+    }
 }
 
 fn report(cuts: usize, whole: bool) {
@@ -309,13 +272,6 @@ fn report(cuts: usize, whole: bool) {
     } else {
         put(b" cuts, not all whole\n");
     }
-}
-
-fn both(a: bool, b: bool) -> bool {
-    if a {
-        return b;
-    }
-    false
 }
 
 // The session has len bytes; it is cut before the first, and behind each.

@@ -58,91 +58,94 @@ fn read(label: &[u8], b: &[u8]) {
     print_read(b);
 }
 
-// What is written into buf, and what that reads as.
-fn save(label: &[u8], buf: &mut [u8], name: &[u8], size: u32, kept: u32, stamp: Stamp) {
-    put(b"write ");
-    put(label);
-    put(b":");
-    match record_writer::write(buf, name, size, kept, stamp) {
+// A case is a label, a colon and what stands behind it.
+fn label_of(case: &[u8]) -> &[u8] {
+    fields::part(case, 0, fields::find(case, b':'))
+}
+
+fn behind_colon(case: &[u8]) -> &[u8] {
+    let n = fields::find(case, b':');
+    fields::part(fields::part(case, n, case.len()), 1, case.len())
+}
+
+// What was written, and what that reads as.
+fn print_written(label: &[u8], buf: &[u8], written: Written) {
+    match written {
         Written::Bytes(n) => {
-            let written = fields::part(buf, 0, n);
-            print_bytes(written);
+            print_bytes(fields::part(buf, 0, n));
             put(b"\n");
-            read(label, written);
+            read(label, fields::part(buf, 0, n));
         }
         Written::Small => put(b" 20\n"),
         Written::Formless => put(b" 22\n"),
     }
 }
 
+// Writes the record of a name, which stands behind the label, into buf.
+fn save(case: &[u8], buf: &mut [u8], size: u32, kept: u32, stamp: Stamp) {
+    let label = label_of(case);
+    put(b"write ");
+    put(label);
+    put(b":");
+    let written = record_writer::write(buf, behind_colon(case), size, kept, stamp);
+    print_written(label, buf, written);
+}
+
 // Into 81 bytes.
-fn write(label: &[u8], name: &[u8], size: u32, kept: u32, stamp: Stamp) {
+fn write(case: &[u8], size: u32, kept: u32, stamp: Stamp) {
     let mut room = [0u8; 81];
-    save(label, &mut room, name, size, kept, stamp);
+    save(case, &mut room, size, kept, stamp);
 }
 
 // Into 80 bytes, without a stamp.
-fn write_80(label: &[u8], name: &[u8], size: u32, kept: u32) {
+fn write_80(case: &[u8], size: u32, kept: u32) {
     let mut room = [0u8; 80];
-    save(label, &mut room, name, size, kept, Stamp::Absent);
+    save(case, &mut room, size, kept, Stamp::Absent);
 }
 
 fn write_stamps() {
-    let name = b"lot7.csv";
-    write(name, name, 300, 200, Stamp::Absent);
+    write(b"lot7.csv:lot7.csv", 300, 200, Stamp::Absent);
     write(
-        b"lot7.csv with a stamp",
-        name,
+        b"lot7.csv with a stamp:lot7.csv",
         300,
         200,
         Stamp::Present(0x5A21_4800),
     );
-    write(b"a stamp of 0", name, 300, 200, Stamp::Present(0));
+    write(b"a stamp of 0:lot7.csv", 300, 200, Stamp::Present(0));
 }
 
 fn write_within() {
-    let long = b"0123456789abcdef0123456789abcdef0123456789abcdef0123456789abcdef";
-    write(b"the shortest", b"a", 0, 0, Stamp::Absent);
+    write(b"the shortest:a", 0, 0, Stamp::Absent);
     write(
-        b"a name of 64",
-        long,
+        b"a name of 64:0123456789abcdef0123456789abcdef0123456789abcdef0123456789abcdef",
         99_999_999,
         0xFFFF_FFFF,
         Stamp::Absent,
     );
     write(
-        b"the longest",
-        long,
+        b"the longest:0123456789abcdef0123456789abcdef0123456789abcdef0123456789abcdef",
         99_999_999,
         0xFFFF_FFFF,
         Stamp::Present(0xFFFF_FFFF),
     );
-    write(b"kept over size", b"lot7.csv", 200, 300, Stamp::Absent);
+    write(b"kept over size:lot7.csv", 200, 300, Stamp::Absent);
 }
 
 fn write_outside() {
-    let long = b"0123456789abcdef0123456789abcdef0123456789abcdef0123456789abcdefg";
-    write(b"a name of 65", long, 300, 200, Stamp::Absent);
-    write(b"no name", b"", 300, 200, Stamp::Absent);
     write(
-        b"a name with a slash",
-        b"lot/7.csv",
+        b"a name of 65:0123456789abcdef0123456789abcdef0123456789abcdef0123456789abcdefg",
         300,
         200,
         Stamp::Absent,
     );
+    write(b"no name:", 300, 200, Stamp::Absent);
+    write(b"a name with a slash:lot/7.csv", 300, 200, Stamp::Absent);
 }
 
 fn write_small() {
-    write(
-        b"size 100000000",
-        b"lot7.csv",
-        100_000_000,
-        200,
-        Stamp::Absent,
-    );
-    write_80(b"into 80 bytes", b"lot7.csv", 300, 200);
-    write_80(b"no name into 80 bytes", b"", 300, 200);
+    write(b"size 100000000:lot7.csv", 100_000_000, 200, Stamp::Absent);
+    write_80(b"into 80 bytes:lot7.csv", 300, 200);
+    write_80(b"no name into 80 bytes:", 300, 200);
 }
 
 // Where what is behind a part starts, at most at the end.
@@ -156,13 +159,8 @@ fn behind(at: usize, part: usize, len: usize) -> usize
     len
 }
 
-// A label, a colon and a record.
-fn read_case(s: &[u8]) {
-    let n = fields::find(s, b':');
-    read(
-        fields::part(s, 0, n),
-        fields::part(fields::part(s, n, s.len()), 1, s.len()),
-    );
+fn read_case(case: &[u8]) {
+    read(label_of(case), behind_colon(case));
 }
 
 // Every case of these, with a `~` behind each.

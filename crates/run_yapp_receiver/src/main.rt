@@ -267,21 +267,22 @@ fn decode(s: &[u8], out: &mut [u8]) -> usize {
     n
 }
 
-// Which call the word names: 1 to 4; 0 where it names none.
-fn call_of(s: &[u8]) -> u8 {
-    if names::same(s, b"leave") {
-        return 1;
+// The number of the first word among these words, of which there are seven; 7 where it is none of them.
+fn place_in(words: &[u8], line: &[u8]) -> usize {
+    let first = word(line, 0);
+    let mut i: usize = 0;
+    while i < 7 {
+        if names::same(word(words, i), first) {
+            return i;
+        }
+        i += 1;
     }
-    if names::same(s, b"bytes") {
-        return 2;
-    }
-    if names::same(s, b"timer") {
-        return 3;
-    }
-    if names::same(s, b"stop") {
-        return 4;
-    }
-    0
+    i
+}
+
+// What a line says to do: a call, 0 to 3; a beginning, 4 and 5; to show the record, 6; nothing, 7.
+fn call_of(line: &[u8]) -> usize {
+    place_in(b"leave bytes timer stop fresh resume record", line)
 }
 
 // ---- The receiver
@@ -309,33 +310,43 @@ fn begin_fresh(line: &[u8]) -> Receiver {
     )
 }
 
-fn begun(receiver: Receiver, area: [u8; 320]) -> Play {
+fn put_begun(m: Receiver) {
     put(b" ->");
-    put_state(receiver.state());
+    put_state(m.state());
+}
+
+fn begin(call: usize, line: &[u8]) -> Receiver {
+    if call == 5 {
+        return begin_resume(line);
+    }
+    begin_fresh(line)
+}
+
+// The area of a receiver that begins: as it was where it resumes.
+fn begin_area(call: usize, area: [u8; 320]) -> [u8; 320] {
+    if call == 5 {
+        return area;
+    }
+    [0xEE; 320]
+}
+
+fn begun(p: Play, call: usize, line: &[u8]) -> Play {
+    let old = p.area;
+    let area = begin_area(call, old);
+    let receiver = begin(call, line);
+    put_begun(receiver);
     Play { receiver, area }
 }
 
-// A line that is no call.
-fn begin(p: Play, first: &[u8], line: &[u8]) -> Play {
-    let area = p.area;
-    if names::same(first, b"fresh") {
-        return begun(begin_fresh(line), [0xEE; 320]);
-    }
-    if names::same(first, b"resume") {
-        return begun(begin_resume(line), area);
-    }
-    p
-}
-
-fn fail(m: Receiver, call: u8, area: &[u8], reply: &mut [u8]) -> ReceiverAnswer {
-    if call == 3 {
+fn fail(m: Receiver, call: usize, area: &[u8], reply: &mut [u8]) -> ReceiverAnswer {
+    if call == 2 {
         return m.timeout(area, reply);
     }
     m.cancel(area, reply)
 }
 
-fn leave(m: Receiver, call: u8, area: &[u8], reply: &mut [u8]) -> ReceiverAnswer {
-    if call == 1 {
+fn leave(m: Receiver, call: usize, area: &[u8], reply: &mut [u8]) -> ReceiverAnswer {
+    if call == 0 {
         return m.transmit(area, reply);
     }
     fail(m, call, area, reply)
@@ -343,12 +354,12 @@ fn leave(m: Receiver, call: u8, area: &[u8], reply: &mut [u8]) -> ReceiverAnswer
 
 fn call_receiver(
     m: Receiver,
-    call: u8,
+    call: usize,
     chunk: &[u8],
     area: &mut [u8],
     reply: &mut [u8],
 ) -> ReceiverAnswer {
-    if call == 2 {
+    if call == 1 {
         return m.receive(chunk, area, reply);
     }
     leave(m, call, area, reply)
@@ -361,21 +372,23 @@ fn put_end(status: Status, m: Receiver) {
     put_mode(m.checked());
 }
 
+fn put_counts(taken: usize, sent: &[u8], stored: usize) {
+    put_number(b"; taken ", taken);
+    put_text(b"; sent ", sent);
+    put_number(b"; stored ", stored);
+}
+
 fn show(got: ReceiverAnswer, before: &[u8], reply: &[u8]) {
-    let m = got.receiver;
     let status = got.status;
-    put_end(status, m);
-    put_number(b"; taken ", got.taken);
-    put_text(b"; sent ", fields::part(reply, 0, got.sent));
-    put_number(b"; stored ", got.stored);
+    put_end(status, got.receiver);
+    put_counts(got.taken, fields::part(reply, 0, got.sent), got.stored);
     put_change(b"; reply", before, reply);
 }
 
-fn hand(p: Play, which: u8, chunk: &[u8], before: &[u8], reply: &mut [u8]) -> Play {
-    let m = p.receiver;
+fn hand(p: Play, which: usize, chunk: &[u8], before: &[u8], reply: &mut [u8]) -> Play {
     let old = p.area;
     let mut area = p.area;
-    let got = call_receiver(m, which, chunk, &mut area, reply);
+    let got = call_receiver(p.receiver, which, chunk, &mut area, reply);
     show(got, before, reply);
     put_stored(&old, &area);
     let receiver = got.receiver;
@@ -383,19 +396,24 @@ fn hand(p: Play, which: u8, chunk: &[u8], before: &[u8], reply: &mut [u8]) -> Pl
 }
 
 // A call with the bytes that a word says.
-fn call(p: Play, which: u8, text: &[u8], before: &[u8], reply: &mut [u8]) -> Play {
+fn call(p: Play, which: usize, text: &[u8], before: &[u8], reply: &mut [u8]) -> Play {
     let mut room = [0u8; 300];
     let n = decode(text, &mut room);
     hand(p, which, fields::part(&room, 0, n), before, reply)
 }
 
 fn turn(p: Play, line: &[u8], before: &[u8], reply: &mut [u8]) -> Play {
-    let first = word(line, 0);
-    let which = call_of(first);
-    if which == 0 {
-        return begin(p, first, line);
+    let which = call_of(line);
+    if which < 4 {
+        return call(p, which, word(line, 1), before, reply);
     }
-    call(p, which, word(line, 1), before, reply)
+    if which < 6 {
+        return begun(p, which, line);
+    }
+    if which == 6 {
+        put_record(p.receiver);
+    }
+    p
 }
 
 // A line with a reply buffer of 259 bytes, and with one of 258.
@@ -438,10 +456,6 @@ fn act(p: Play, line: &[u8]) -> Play {
     put(line);
     if names::same(word(line, 0), b"258") {
         return turn_258(p, fields::part(line, 4, line.len()));
-    }
-    if names::same(line, b"record") {
-        put_record(p.receiver);
-        return p;
     }
     turn_259(p, line)
 }

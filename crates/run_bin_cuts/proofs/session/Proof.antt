@@ -1,33 +1,50 @@
 -- The loop of `session` ends. Assumes nothing.
 use Prim.Native.Nat.{_≤_, _-_}
-use lib.ListN.{length}
 use borrow.Author.Needs.{needs}
 use Rattle.run_bin_cuts.proofs.session.Statement.{statement}
 use Rattle.run_bin_cuts.proofs.session.Tie as tie
 
 abbrev Inv-loop : tie.InvT-loop
-Inv-loop file e₀ i₀ e i = i ≤ length file
+Inv-loop bytes file receiver₀ sender₀ area₀ to₀ back₀ answered₀ left₀ i₀ receiver sender area to back answered left i = i ≤ 5
 
 abbrev μ-loop : tie.MeasureT-loop
-μ-loop file e₀ i₀ e i = length file - i
+μ-loop bytes file receiver₀ sender₀ area₀ to₀ back₀ answered₀ left₀ i₀ receiver sender area to back answered left i = 5 - i
 
-turn-requires : tie.Need-turn-requires Inv-loop μ-loop
-turn-requires c κs = search needs
+receiver-of-requires : tie.Need-receiver-of-requires Inv-loop μ-loop
+receiver-of-requires c κs = search needs
+
+slice-aggregate-begin : tie.Need-slice-aggregate-begin Inv-loop μ-loop
+slice-aggregate-begin c = search needs
+
+begin-requires : tie.Need-begin-requires Inv-loop μ-loop
+begin-requires c κs = search needs
 
 loop-holds : tie.Need-loop-holds Inv-loop μ-loop
 loop-holds c = search needs
 
-turn-requires-2 : tie.Need-turn-requires-2 Inv-loop μ-loop
-turn-requires-2 c κs = search needs
+send-requires : tie.Need-send-requires Inv-loop μ-loop
+send-requires c κs = search needs
+
+less-requires : tie.Need-less-requires Inv-loop μ-loop
+less-requires c κs = search needs
+
+take-requires : tie.Need-take-requires Inv-loop μ-loop
+take-requires c κs = search needs
+
+less-requires-2 : tie.Need-less-requires-2 Inv-loop μ-loop
+less-requires-2 c κs = search needs
 
 add-i : tie.Need-add-i Inv-loop μ-loop
-add-i c = search needs
+add-i c = search (needs, c .before .before .before .before .before .before .before .before .before .before .before .loop-test .taken)
 
 loop-less : tie.Need-loop-less Inv-loop μ-loop
-loop-less c = search needs
+loop-less c = search (needs, c .before .before .before .before .before .before .before .before .before .before .before .loop-test .taken)
 
 loop-again : tie.Need-loop-again Inv-loop μ-loop
-loop-again c = search needs
+loop-again c = search (needs, c .before .before .before .before .before .before .before .before .before .before .before .loop-test .taken)
+
+left-by-requires : tie.Need-left-by-requires Inv-loop μ-loop
+left-by-requires c κs = search needs
 
 returns : tie.Need-returns Inv-loop μ-loop
 returns c = search needs
@@ -38,10 +55,16 @@ session-spec =
     (tie.spec
     Inv-loop
     μ-loop
-    turn-requires
+    receiver-of-requires
+    slice-aggregate-begin
+    begin-requires
     loop-holds
-    turn-requires-2
+    send-requires
+    less-requires
+    take-requires
+    less-requires-2
     add-i
     loop-less
     loop-again
+    left-by-requires
     returns)
