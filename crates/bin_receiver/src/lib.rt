@@ -7,7 +7,6 @@ use calls::RecordAnswer;
 use calls::Status;
 use fields::Place;
 ghost use mathlib.Core.Path.{_≡_};
-ghost use Rattle.fields.specs.Buffer.{appended};
 ghost use Rattle.calls.specs.Recording.{recordAnswer, recordLeft};
 ghost use Rattle.bin_receiver.specs.Acts.{begunAs, answeredBy, failsOf};
 ghost use Rattle.bin_receiver.specs.Receiver.{fresh as freshOf, resume as resumeOf, transmit as transmitOf, receive as receiveOf, timeout as timeoutOf, cancel as cancelOf, recordBy};
@@ -37,12 +36,6 @@ pub struct ReceiverAnswer {
     pub shown: Place,
 }
 
-fn keep_name(own: &mut [u8; 64], name: &[u8])
-    ensures { λ _. ⌜ now (own .exit) ≡ appended 0 (now (name .entry)) (now (own .entry)) ⌝ }
-{
-    buffers::append_bytes(own, 0, name);
-}
-
 // A receiver in a state, with a record or none.
 fn begin(
     state: ReceiverState,
@@ -54,7 +47,7 @@ fn begin(
     ensures { λ r. ⌜ r ≡ begunAs state room resumes keeping (now (name .entry)) ⌝ }
 {
     let mut own = [0; 64];
-    keep_name(&mut own, name);
+    buffers::append_bytes(&mut own, 0, name);
     Receiver {
         name: own,
         core: ReceiverCore {
@@ -63,20 +56,6 @@ fn begin(
             resumes,
             keeping,
         },
-    }
-}
-
-// A refused call changes nothing.
-fn refused(receiver: Receiver, status: Status) -> ReceiverAnswer
-    ensures { λ r. ⌜ r ≡ record { receiver = receiver; status = status; sent = 0; stored = 0; shown = record { start = 0; len = 0 } } ⌝ }
-{
-    let shown = Place { start: 0, len: 0 };
-    ReceiverAnswer {
-        receiver,
-        status,
-        sent: 0,
-        stored: 0,
-        shown,
     }
 }
 
@@ -105,16 +84,21 @@ fn answered(room: usize, resumes: bool, name: [u8; 64], answer: Answer) -> Recei
     }
 }
 
+fn kept(core: ReceiverCore) -> Keeping
+    ensures { λ r. ⌜ r ≡ core .keeping ⌝ }
+{
+    core.keeping
+}
+
 // Timer or operator's stop.
 fn fail(m: Receiver, outcome: Outcome, area: &[u8], reply: &mut [u8]) -> ReceiverAnswer
     ensures { λ r. ⌜ failsOf outcome m (now (area .entry)) (now (reply .entry)) ≡ record { answer = r; area = now (area .entry); reply = now (reply .exit) } ⌝ }
 {
-    let core = m.core;
-    let state = core.state;
-    let keeping = core.keeping;
+    let state = m.state();
+    let keeping = kept(m.core);
     let mut name = m.name;
-    let answer = bin_calls::fail(outcome, core.room, state, keeping, &mut name, area, reply);
-    answered(core.room, core.resumes, name, answer)
+    let answer = bin_calls::fail(outcome, m.core.room, state, keeping, &mut name, area, reply);
+    answered(m.core.room, m.core.resumes, name, answer)
 }
 
 impl Receiver {
@@ -139,8 +123,7 @@ impl Receiver {
         let begun = bin_checks::begin(bytes, room);
         let state = begun.state;
         let keeping = begun.keeping;
-        let place = begun.name;
-        let name = fields::bytes_at(bytes, place);
+        let name = fields::bytes_at(bytes, begun.name);
         begin(state, room, resumes, keeping, name)
     }
 
@@ -148,23 +131,28 @@ impl Receiver {
     pub fn transmit(self, area: &[u8], reply: &mut [u8]) -> ReceiverAnswer
         ensures { λ r. ⌜ transmitOf self (now (area .entry)) (now (reply .entry)) ≡ record { answer = r; area = now (area .entry); reply = now (reply .exit) } ⌝ }
     {
-        let core = self.core;
-        let state = core.state;
-        let status = bin_checks::check(state, reply.len(), 0, area.len(), core.room);
-        refused(self, status)
+        let state = self.state();
+        let status = bin_checks::check(state, reply.len(), 0, area.len(), self.core.room);
+        let shown = Place { start: 0, len: 0 };
+        ReceiverAnswer {
+            receiver: self,
+            status,
+            sent: 0,
+            stored: 0,
+            shown,
+        }
     }
 
     // A frame has arrived.
     pub fn receive(self, frame: &[u8], area: &mut [u8], reply: &mut [u8]) -> ReceiverAnswer
         ensures { λ r. ⌜ receiveOf self (now (frame .entry)) (now (area .entry)) (now (reply .entry)) ≡ record { answer = r; area = now (area .exit); reply = now (reply .exit) } ⌝ }
     {
-        let core = self.core;
-        let state = core.state;
-        let keeping = core.keeping;
+        let state = self.state();
+        let keeping = kept(self.core);
         let mut name = self.name;
         let answer = bin_calls::receive(
-            core.room,
-            core.resumes,
+            self.core.room,
+            self.core.resumes,
             state,
             keeping,
             &mut name,
@@ -172,7 +160,7 @@ impl Receiver {
             area,
             reply,
         );
-        answered(core.room, core.resumes, name, answer)
+        answered(self.core.room, self.core.resumes, name, answer)
     }
 
     // The timer has run out.
@@ -193,8 +181,7 @@ impl Receiver {
     pub fn record(self, buf: &mut [u8]) -> RecordAnswer
         ensures { λ r. ⌜ (r ≡ recordAnswer (recordBy self) (now (buf .entry))) × (now (buf .exit) ≡ recordLeft (recordBy self) (now (buf .entry))) ⌝ }
     {
-        let core = self.core;
-        let keeping = core.keeping;
+        let keeping = kept(self.core);
         let name = self.name;
         keeping::write_record(keeping, &name, buf)
     }

@@ -82,6 +82,12 @@ fn within(announce: Announce, name: &[u8], size: usize, block: usize) -> Sender
 
 // ---- The calls
 
+fn announced(core: SenderCore) -> Announce
+    ensures { λ r. ⌜ r ≡ core .announce ⌝ }
+{
+    core.announce
+}
+
 // The answer of a call: the sender in the state of the step, whose frame stands in the reply buffer.
 fn answered(m: Sender, step: Step, file: &[u8], reply: &mut [u8]) -> SenderAnswer
     ensures { λ r. ⌜ answeredBy m (doneBy (settingsOf m) (now (file .entry)) step) (now (reply .entry)) ≡ record { answer = r; reply = now (reply .exit) } ⌝ }
@@ -155,9 +161,14 @@ impl Sender {
     pub fn transmit(self, file: &[u8], reply: &mut [u8]) -> SenderAnswer
         ensures { λ r. ⌜ transmitOf self (now (file .entry)) (now (reply .entry)) ≡ record { answer = r; reply = now (reply .exit) } ⌝ }
     {
-        let core = self.core;
-        let state = core.state;
-        let step = bin_sending::transmits(state, core.size, core.block, file, reply.len());
+        let state = self.state();
+        let step = bin_sending::transmits(
+            state,
+            self.core.size,
+            self.core.block,
+            file,
+            reply.len(),
+        );
         answered(self, step, file, reply)
     }
 
@@ -165,10 +176,9 @@ impl Sender {
     pub fn receive(self, frame: &[u8], file: &[u8], reply: &mut [u8]) -> SenderAnswer
         ensures { λ r. ⌜ receiveOf self (now (frame .entry)) (now (file .entry)) (now (reply .entry)) ≡ record { answer = r; reply = now (reply .exit) } ⌝ }
     {
-        let core = self.core;
-        let state = core.state;
-        let announce = core.announce;
-        let step = bin_sending::receives(state, announce, core.size, frame, file, reply.len());
+        let state = self.state();
+        let announce = announced(self.core);
+        let step = bin_sending::receives(state, announce, self.core.size, frame, file, reply.len());
         answered(self, step, file, reply)
     }
 
@@ -176,12 +186,11 @@ impl Sender {
     pub fn timeout(self, file: &[u8], reply: &mut [u8]) -> SenderAnswer
         ensures { λ r. ⌜ timeoutOf self (now (file .entry)) (now (reply .entry)) ≡ record { answer = r; reply = now (reply .exit) } ⌝ }
     {
-        let core = self.core;
-        let state = core.state;
+        let state = self.state();
         let step = bin_sending::breaks_off(
             Outcome::TimedOut,
             state,
-            core.size,
+            self.core.size,
             file.len(),
             reply.len(),
         );
@@ -192,12 +201,11 @@ impl Sender {
     pub fn cancel(self, file: &[u8], reply: &mut [u8]) -> SenderAnswer
         ensures { λ r. ⌜ cancelOf self (now (file .entry)) (now (reply .entry)) ≡ record { answer = r; reply = now (reply .exit) } ⌝ }
     {
-        let core = self.core;
-        let state = core.state;
+        let state = self.state();
         let step = bin_sending::breaks_off(
             Outcome::Stopped,
             state,
-            core.size,
+            self.core.size,
             file.len(),
             reply.len(),
         );

@@ -3,11 +3,14 @@ use borrow.Author.Needs.{needs}
 use Rattle.bin_receiver.proofs.begin.Statement.{statement}
 use Rattle.bin_receiver.proofs.begin.Tie as tie
 
-keep-name-requires : tie.Need-keep-name-requires
-keep-name-requires c κs = search needs
+slice-aggregate-append-bytes : tie.Need-slice-aggregate-append-bytes
+slice-aggregate-append-bytes c = search needs
+
+append-bytes-requires : tie.Need-append-bytes-requires
+append-bytes-requires c κs = search needs
 
 returns : tie.Need-returns
-returns c = rw (c .keep-name .ensures)
+returns c = rw (c .before .append-bytes .ensures .1)
 
 pub begin-spec : {M : Type 1} → statement M
-begin-spec = tie.close (tie.spec keep-name-requires returns)
+begin-spec = tie.close (tie.spec slice-aggregate-append-bytes append-bytes-requires returns)

@@ -18,8 +18,8 @@ begin-requires-2 c κs = search needs
 
 returns : tie.Need-returns
 returns c =
-    let a = c .before .before .before .before .before .args in
-    rw (c .begin2 .ensures, c .before .bytes-at .ensures, c .before .before .before .begin .ensures) (sym (resume-is (now (a .bytes)) (a .room) (a .resumes)))
+    let a = c .before .before .before .before .args in
+    rw (c .begin2 .ensures, c .before .bytes-at .ensures, c .before .before .begin .ensures) (sym (resume-is (now (a .bytes)) (a .room) (a .resumes)))
 
 pub resume-spec : {M : Type 1} → statement M
 resume-spec = tie.close (tie.spec begin-requires bytes-at-requires begin-requires-2 returns)

@@ -1,0 +1,10 @@
+-- `answered` puts the answer together. Assumes nothing.
+use borrow.Author.Needs.{needs}
+use Rattle.bin_receiver.proofs.answered.Statement.{statement}
+use Rattle.bin_receiver.proofs.answered.Tie as tie
+
+returns : tie.Need-returns
+returns c = search needs
+
+pub answered-spec : {M : Type 1} → statement M
+answered-spec = tie.close (tie.spec returns)
