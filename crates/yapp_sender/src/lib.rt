@@ -49,12 +49,10 @@ fn answered(name: [u8; 64], answer: Answer) -> SenderAnswer
 fn settled(m: Sender, event: Event, file: &[u8], reply: &mut [u8]) -> SenderAnswer
     ensures { λ r. ⌜ settledBy event m (now (file .entry)) (now (reply .entry)) ≡ record { answer = r; reply = now (reply .exit) } ⌝ }
 {
-    let core = m.core;
-    let reader = m.reader;
     let name = m.name;
     answered(
         name,
-        yapp_answering::settle(event, core, reader, name, file, reply),
+        yapp_answering::settle(event, m.core, m.reader, name, file, reply),
     )
 }
 
@@ -92,8 +90,7 @@ impl Sender {
     pub fn checked(self) -> bool
         ensures { λ r. ⌜ r ≡ self .reader .checked ⌝ }
     {
-        let reader = self.reader;
-        let checked = reader.checked();
+        let checked = self.reader.checked();
         checked
     }
 
@@ -101,8 +98,7 @@ impl Sender {
     pub fn pending(self) -> [u8; 259]
         ensures { λ r. ⌜ r ≡ self .reader .pending ⌝ }
     {
-        let reader = self.reader;
-        let pending = reader.pending();
+        let pending = self.reader.pending();
         pending
     }
 
@@ -117,12 +113,10 @@ impl Sender {
     pub fn receive(self, chunk: &[u8], file: &[u8], reply: &mut [u8]) -> SenderAnswer
         ensures { λ r. ⌜ receiveOf self (now (chunk .entry)) (now (file .entry)) (now (reply .entry)) ≡ record { answer = r; reply = now (reply .exit) } ⌝ }
     {
-        let core = self.core;
-        let reader = self.reader;
         let name = self.name;
         answered(
             name,
-            yapp_answering::receive(core, reader, name, chunk, file, reply),
+            yapp_answering::receive(self.core, self.reader, name, chunk, file, reply),
         )
     }
 

@@ -18,7 +18,7 @@ same-length c = search needs
 
 returns : tie.Need-returns
 returns c =
-    let a = c .before .before .before .before .before .before .before .before .before .before .args in
+    let a = c .before .before .before .before .before .before .before .before .args in
     settled-is (a .m) (now (a .file)) (now (a .reply)) (a .event) ∙ ap (afterBy (a .m .name)) (c .before .before .before .settle .ensures) ∙ rw (c .answered .ensures)
 
 pub settled-spec : {M : Type 1} → statement M

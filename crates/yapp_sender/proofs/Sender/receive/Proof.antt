@@ -18,7 +18,7 @@ same-length c = search needs
 
 returns : tie.Need-returns
 returns c =
-    let a = c .before .before .before .before .before .before .before .before .before .before .before .args in
+    let a = c .before .before .before .before .before .before .before .before .before .args in
     receive-is (a .self) (now (a .file)) (now (a .reply)) (now (a .chunk)) ∙ ap (afterBy (a .self .name)) (c .before .before .before .receive .ensures) ∙ rw (c .answered .ensures)
 
 pub receive-spec : {M : Type 1} → statement M
