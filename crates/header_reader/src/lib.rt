@@ -18,7 +18,7 @@ fn stamp_of(option: &[u8]) -> Stamp
     if option[8] != 0 {
         return Stamp::Absent;
     }
-    let Number::Value(v) = hex_reader::read_hex(&option[..8]) else {
+    let Number::Value(v) = digit_reader::read_hex(&option[..8]) else {
         return Stamp::Absent;
     };
     Stamp::Present(v)
@@ -30,7 +30,7 @@ fn header_size(n: usize, t: &[u8]) -> HeaderRead
 {
     let k = fields::find(t, 0);
     if k < t.len() {
-        let Number::Value(size) = decimal_reader::read_size(&t[..k]) else {
+        let Number::Value(size) = digit_reader::read_size(&t[..k]) else {
             return HeaderRead::Bad;
         };
         let at = k + 1;

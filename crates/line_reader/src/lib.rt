@@ -125,7 +125,7 @@ fn line_stamp(end: usize, size: u32, crc: u16, t: &[u8]) -> Frame
         let u = rest(t, 1);
         let s = before(u);
         let resumable = line_stamps::has_resume(s);
-        let Number::Value(stamp) = hex_reader::read_hex(line_stamps::stamp_digits(s)) else {
+        let Number::Value(stamp) = digit_reader::read_hex(line_stamps::stamp_digits(s)) else {
             return Frame::MalformedLine;
         };
         return line_name(end, size, crc, stamp, resumable, behind(u));
@@ -139,7 +139,7 @@ fn line_crc(end: usize, size: u32, t: &[u8]) -> Frame
 {
     if is_marked(t, b'|') {
         let u = rest(t, 1);
-        let Number::Value(crc) = decimal_reader::read_crc(before(u)) else {
+        let Number::Value(crc) = digit_reader::read_crc(before(u)) else {
             return Frame::MalformedLine;
         };
         return line_stamp(end, size, crc as u16, behind(u));
@@ -151,7 +151,7 @@ fn line_crc(end: usize, size: u32, t: &[u8]) -> Frame
 fn basic_line(t: &[u8]) -> Frame
     ensures { λ r. ⌜ r ≡ basicBy (readSize (now (t .entry))) ⌝ }
 {
-    let Number::Value(size) = decimal_reader::read_size(t) else {
+    let Number::Value(size) = digit_reader::read_size(t) else {
         return Frame::MalformedLine;
     };
     Frame::Basic(size)
@@ -162,7 +162,7 @@ fn line_read(end: usize, t: &[u8]) -> Frame
     ensures { λ r. ⌜ r ≡ lineRead end (now (t .entry)) ⌝ }
 {
     if has_hash(t) {
-        let Number::Value(size) = decimal_reader::read_size(before(t)) else {
+        let Number::Value(size) = digit_reader::read_size(before(t)) else {
             return Frame::MalformedLine;
         };
         return line_crc(end, size, behind(t));
@@ -184,7 +184,7 @@ fn line_of(b: &[u8]) -> Frame
 fn ok_crc(n: usize, kept: u32, t: &[u8]) -> Frame
     ensures { λ r. ⌜ r ≡ okCrcBy n kept (readCrc (now (t .entry))) ⌝ }
 {
-    let Number::Value(crc) = decimal_reader::read_crc(t) else {
+    let Number::Value(crc) = digit_reader::read_crc(t) else {
         return Frame::MalformedOK;
     };
     let name = Place { start: 4, len: n };
@@ -201,7 +201,7 @@ fn ok_kept(n: usize, t: &[u8]) -> Frame
 {
     if is_marked(t, b'$') {
         let u = rest(t, 1);
-        let Number::Value(kept) = decimal_reader::read_size(before(u)) else {
+        let Number::Value(kept) = digit_reader::read_size(before(u)) else {
             return Frame::MalformedOK;
         };
         return ok_crc(n, kept, behind(u));

@@ -13,9 +13,11 @@ use lib.Dec.{eqb}
 use mathlib.Core.Bool.{Bool, true, false}
 use Rattle.numbers.specs.declared.Number.{Number}
 use Rattle.numbers.specs.declared.Number.the-variants.{Value, Malformed}
+use Rattle.numbers.specs.declared.Base.{Base}
+use Rattle.numbers.specs.declared.Base.the-variants.{Decimal, Hex}
 use Rattle.fields.specs.Pick.{pick}
 use Rattle.fields.specs.Lists.{upTo}
-use Rattle.numbers.specs.Reading.{Base, Decimal, Hex, radix, decimalDigit, hexDigit, digit, valueFrom, readDecimal, readSize, atMost, readCrc, readHex, littleValue, readLittle}
+use Rattle.numbers.specs.Reading.{radix, decimalDigit, hexDigit, digit, valueFrom, readDecimal, readSize, atMost, readCrc, readHex, littleValue, readLittle}
 use Rattle.fields.proofs.Lists.{le-or-lt, drop-one}
 
 -- a number of i digits to the base r, with one digit more
@@ -156,6 +158,15 @@ readDecimal-long w s h g = simp (le-leb 1 (length s) h, lt-leb (length s) w g)
 pub readDecimal-is : (w : ℕ) (s : List ℕ) → 1 ≤ length s → length s ≤ w → valueFrom Decimal 0 s ≡ readDecimal w s
 unfolding readDecimal
 readDecimal-is w s h g = simp (le-leb 1 (length s) h, le-leb (length s) w g)
+
+-- as many decimal digits as a u32 holds, and as many hex digits
+pub decimal-fits : (n : ℕ) → n ≤ 9 → radix Decimal ^ n ≤ 4294967296
+unfolding radix
+decimal-fits n h = omega (arith, pow-le-pow-right {n = 10} (omega arith) {i = n} {j = 9} h)
+
+pub hex-fits : (n : ℕ) → n ≡ 8 → radix Hex ^ n ≤ 4294967296
+unfolding radix
+hex-fits n h = rw h (omega arith)
 
 module _ (s : List ℕ) where
   -- a CRC

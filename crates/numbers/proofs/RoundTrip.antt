@@ -11,9 +11,11 @@ use lib.ListN.{length, getD, length-append, List·getD-append}
 use borrow.Author.Tests.{lt-ltb, le-ltb, le-leb, lt-leb, ne-eqb, eqb-false, not-true, ltb-true}
 use lib.Dec.{leb, eqb}
 use Rattle.numbers.specs.declared.Number.the-variants.{Value}
+use Rattle.numbers.specs.declared.Base.{Base}
+use Rattle.numbers.specs.declared.Base.the-variants.{Decimal, Hex}
 use Rattle.fields.specs.Lists.{all, upTo}
 use Rattle.numbers.specs.Canonical.{plain, isCapital, capitals, isByte}
-use Rattle.numbers.specs.Reading.{Base, Decimal, Hex, radix, decimalDigit, hexDigit, digit, valueFrom, readDecimal, readSize, readCrc, readHex, littleValue, readLittle}
+use Rattle.numbers.specs.Reading.{radix, decimalDigit, hexDigit, digit, valueFrom, readDecimal, readSize, readCrc, readHex, littleValue, readLittle}
 use Rattle.numerals.specs.Writing.{decimal, capital, hex, little}
 use Rattle.fields.proofs.Lists.{le-or-lt, both}
 use Rattle.numerals.proofs.Writing.{decimal-small, decimal-more, decimal-some, hex-length, little-length}

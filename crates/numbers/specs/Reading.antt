@@ -7,11 +7,8 @@ use lib.Dec.{leb, ltb, eqb}
 use Rattle.fields.specs.Pick.{pick}
 use Rattle.numbers.specs.declared.Number.{Number}
 use Rattle.numbers.specs.declared.Number.the-variants.{Value, Malformed}
-
--- the digits that a number is written in
-pub data Base : Type 0 where
-  Decimal : Base
-  Hex : Base
+use Rattle.numbers.specs.declared.Base.{Base}
+use Rattle.numbers.specs.declared.Base.the-variants.{Decimal, Hex}
 
 -- how many digits a base has
 unfoldable pub radix : Base → ℕ

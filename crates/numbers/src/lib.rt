@@ -5,3 +5,9 @@ pub enum Number {
     Value(u32),
     Malformed,
 }
+
+// The digits that a number is written in.
+pub enum Base {
+    Decimal,
+    Hex,
+}

@@ -36,7 +36,7 @@ fn resume_digits(t: &[u8]) -> ResumeRead
 {
     let k = fields::find(t, 0);
     if k < t.len() {
-        let Number::Value(v) = decimal_reader::read_size(&t[..k]) else {
+        let Number::Value(v) = digit_reader::read_size(&t[..k]) else {
             return ResumeRead::Nothing;
         };
         let at = k + 1;

@@ -200,7 +200,7 @@ fn word(line: &[u8], number: usize) -> &[u8] {
 fn value(s: &[u8]) -> usize
     ensures { λ r. ⌜ r ≤ 4294967295 ⌝ }
 {
-    match decimal_reader::read_size(s) {
+    match digit_reader::read_size(s) {
         Number::Value(v) => v as usize,
         Number::Malformed => 0,
     }

@@ -82,7 +82,7 @@ fn has(line: &[u8], number: usize, byte: u8) -> bool {
 fn value(s: &[u8]) -> usize
     ensures { λ r. ⌜ r ≤ 4294967295 ⌝ }
 {
-    match decimal_reader::read_size(s) {
+    match digit_reader::read_size(s) {
         Number::Value(v) => v as usize,
         Number::Malformed => 0,
     }
@@ -176,7 +176,7 @@ fn is_small(line: &[u8]) -> bool {
 // ---- The sender
 
 fn stamp_of(s: &[u8]) -> Stamp {
-    match hex_reader::read_hex(s) {
+    match digit_reader::read_hex(s) {
         Number::Value(v) => Stamp::Present(v),
         Number::Malformed => Stamp::Absent,
     }

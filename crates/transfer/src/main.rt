@@ -258,7 +258,7 @@ fn start(words: usize, path: &[u8], seed: &[u8]) {
     if words < 3 {
         return run(path, 1);
     }
-    match decimal_reader::read_size(seed) {
+    match digit_reader::read_size(seed) {
         numbers::Number::Value(n) => run(path, n as u64),
         numbers::Number::Malformed => say(b": a seed is a number of at most 8 digits\n", seed),
     }

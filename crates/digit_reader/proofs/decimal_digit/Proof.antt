@@ -3,8 +3,8 @@ use mathlib.Core.Path.{sym}
 use native.Mathlib.Omega.{arith}
 use Rattle.numbers.proofs.Reading.{decimal-is, decimal-low, decimal-high}
 use borrow.Author.Needs.{needs}
-use Rattle.decimal_reader.proofs.decimal_digit.Statement.{statement}
-use Rattle.decimal_reader.proofs.decimal_digit.Tie as tie
+use Rattle.digit_reader.proofs.decimal_digit.Statement.{statement}
+use Rattle.digit_reader.proofs.decimal_digit.Tie as tie
 
 cast-result : tie.Need-cast-result
 cast-result c = search needs

@@ -1,12 +1,11 @@
 -- `read_hex` tests the length, and then asks for the digits' value. Assumes nothing.
 use mathlib.Core.Path.{_∙_}
-use native.Mathlib.Omega.{arith}
-use Rattle.numbers.proofs.Reading.{readHex-bad, readHex-is}
-use Rattle.hex_reader.proofs.read_hex.Statement.{statement}
-use Rattle.hex_reader.proofs.read_hex.Tie as tie
+use Rattle.numbers.proofs.Reading.{readHex-bad, readHex-is, hex-fits}
+use Rattle.digit_reader.proofs.read_hex.Statement.{statement}
+use Rattle.digit_reader.proofs.read_hex.Tie as tie
 
 value-of-requires : tie.Need-value-of-requires
-value-of-requires c κs = omega arith
+value-of-requires c κs = hex-fits _ (c .if1 .taken)
 
 returns : tie.Need-returns
 returns c = c .value-of .ensures ∙ readHex-is _ (c .before .if1 .taken)

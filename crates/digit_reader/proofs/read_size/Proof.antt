@@ -1,7 +1,7 @@
 -- `read_size` reads up to eight digits. Assumes nothing.
 use borrow.Author.Needs.{needs}
-use Rattle.decimal_reader.proofs.read_size.Statement.{statement}
-use Rattle.decimal_reader.proofs.read_size.Tie as tie
+use Rattle.digit_reader.proofs.read_size.Statement.{statement}
+use Rattle.digit_reader.proofs.read_size.Tie as tie
 
 decimal-of-requires : tie.Need-decimal-of-requires
 decimal-of-requires c κs = search needs

@@ -3,8 +3,8 @@ use mathlib.Core.Path.{sym}
 use native.Mathlib.Omega.{arith}
 use Rattle.numbers.proofs.Reading.{hex-is, hex-upper, hex-lower, hex-low, hex-past-nine, hex-past-upper, hex-past-lower}
 use borrow.Author.Needs.{needs}
-use Rattle.hex_reader.proofs.hex_digit.Statement.{statement}
-use Rattle.hex_reader.proofs.hex_digit.Tie as tie
+use Rattle.digit_reader.proofs.hex_digit.Statement.{statement}
+use Rattle.digit_reader.proofs.hex_digit.Tie as tie
 
 cast-result : tie.Need-cast-result
 cast-result c = search needs

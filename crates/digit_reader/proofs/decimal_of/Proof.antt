@@ -1,9 +1,9 @@
 -- `decimal_of` tests the length, and then asks for the digits' value. Assumes nothing.
 use mathlib.Core.Path.{_∙_}
 use native.Mathlib.Omega.{arith}
-use Rattle.numbers.proofs.Reading.{readDecimal-none, readDecimal-long, readDecimal-is}
-use Rattle.decimal_reader.proofs.decimal_of.Statement.{statement}
-use Rattle.decimal_reader.proofs.decimal_of.Tie as tie
+use Rattle.numbers.proofs.Reading.{readDecimal-none, readDecimal-long, readDecimal-is, decimal-fits}
+use Rattle.digit_reader.proofs.decimal_of.Statement.{statement}
+use Rattle.digit_reader.proofs.decimal_of.Tie as tie
 
 returns : tie.Need-returns
 returns c = readDecimal-none _ _ (c .if1 .taken)
@@ -12,7 +12,7 @@ returns-2 : tie.Need-returns-2
 returns-2 c = readDecimal-long _ _ (c .before .if1 .left) (c .if2 .taken)
 
 value-of-requires : tie.Need-value-of-requires
-value-of-requires c κs = omega arith
+value-of-requires c κs = decimal-fits _ (omega arith)
 
 returns-3 : tie.Need-returns-3
 returns-3 c = c .value-of .ensures ∙ readDecimal-is _ _ (c .before .before .if1 .left) (c .before .if2 .left)

@@ -2,8 +2,8 @@
 use mathlib.Core.Path.{sym, _∙_}
 use Rattle.numbers.proofs.Reading.{readCrc-bad, readCrc-high, readCrc-is}
 use borrow.Author.Needs.{needs}
-use Rattle.decimal_reader.proofs.read_crc.Statement.{statement}
-use Rattle.decimal_reader.proofs.read_crc.Tie as tie
+use Rattle.digit_reader.proofs.read_crc.Statement.{statement}
+use Rattle.digit_reader.proofs.read_crc.Tie as tie
 
 decimal-of-requires : tie.Need-decimal-of-requires
 decimal-of-requires c κs = search needs
