@@ -17,7 +17,7 @@ use Rattle.reader.specs.Reader.{checking, receive as reads}
 use Rattle.yapp.specs.declared.SenderState.{SenderState}
 use Rattle.yapp.specs.declared.ReceiverState.{ReceiverState}
 use Rattle.yapp.specs.Steps.{SenderMove, ReceiverMove, writes, senderTakes, senderLeaves, senderTimes, senderStops, receiverTimes, receiverStops}
-use Rattle.yapp_sender.specs.Sender.{heard}
+use Rattle.yapp_core.specs.Core.{heard}
 use Rattle.transfers.specs.MachinesYapp.{receiverTakes}
 use Rattle.transfers.specs.World.{World}
 use Rattle.transfers.specs.Yapp.{Settings}

@@ -33,8 +33,8 @@ use Rattle.yapp.specs.declared.ReceiverState.the-variants.{R, Ended as REnded}
 use Rattle.yapp_sender.specs.declared.Sender.{Sender}
 use Rattle.yapp_receiver.specs.declared.Receiver.{Receiver}
 use Rattle.yapp.specs.Steps.{SenderSettings, SenderMove, ReceiverMove, writes, sends, senderLeaves, senderTimes, senderStops, receiverTimes, receiverStops, senderEnded, receiverEnded}
-use Rattle.yapp_core.specs.Core.{nowhere, shownIn}
-use Rattle.yapp_sender.specs.Sender.{SenderAfter, heard, settingsOf, replied, arrived, refusedCall, statusOf, unlessRefused, begin, begunSender, transmit, receive, timeout, cancel}
+use Rattle.yapp_core.specs.Core.{nowhere, heard, shownIn}
+use Rattle.yapp_sender.specs.Sender.{SenderAfter, settingsOf, replied, arrived, refusedCall, statusOf, unlessRefused, begin, begunSender, transmit, receive, timeout, cancel}
 use Rattle.calls.specs.Saving.{formBy}
 use Rattle.yapp_receiver.specs.Receiver.{ReceiverAfter, settingsOf as settingsR, nowOf, replied as repliedR, refusedCall as refusedR, statusOf as statusR, unlessRefused as unlessR, receiverWith, fresh, withSaved, resumeBy, resume, transmit as transmitR′, timeout as timeoutR′, cancel as cancelR′}
 use Rattle.transfers.specs.MachinesYapp.{receiverTakes, receive as receiveR′}

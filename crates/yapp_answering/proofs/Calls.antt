@@ -15,11 +15,11 @@ use Rattle.calls.specs.Checks.{isTaken}
 use Rattle.calls.proofs.Laws.{taken-room}
 use Rattle.yapp.specs.Steps.{SenderMove, senderTakes, senderEnded}
 use Rattle.yapp_core.specs.declared.SenderCore.{SenderCore}
-use Rattle.yapp_core.specs.Core.{settingsBy, nowhere, shownIn}
+use Rattle.yapp_core.specs.Core.{settingsBy, nowhere, heard, shownIn}
 use Rattle.yapp_sending.specs.declared.Event.{Event}
 use Rattle.yapp_sending.specs.declared.Step.{Step}
 use Rattle.yapp_sending.specs.Sending.{moveOf, happensBy}
-use Rattle.yapp_answering.specs.Calls.{Left, leftAs, leftBy, refusedAs, unless, statusOf, heard, arrives, receives, settles}
+use Rattle.yapp_answering.specs.Calls.{Left, leftAs, leftBy, refusedAs, unless, statusOf, arrives, receives, settles}
 
 never : {A : Type 0} → false ≡ true → A
 never h = absurd (let z : _≡_ {A = ℕ} 0 1 = cc h in omega arith)

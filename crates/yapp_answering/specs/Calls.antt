@@ -5,7 +5,6 @@ use mathlib.Core.List.{List}
 use lib.ListN.{length}
 use Rattle.fields.specs.Buffer.{over}
 use Rattle.fields.specs.declared.Place.{Place}
-use Rattle.packets.specs.Content.{Content, contentOf}
 use Rattle.reader.specs.declared.Reader.{Reader}
 use Rattle.reader.specs.declared.Received.{Received}
 use Rattle.reader.specs.Reader.{checking, receive as reads}
@@ -15,7 +14,7 @@ use Rattle.calls.specs.Checks.{checkOf}
 use Rattle.yapp.specs.declared.SenderState.{SenderState}
 use Rattle.yapp.specs.Steps.{writes, SenderMove, senderTakes, senderEnded}
 use Rattle.yapp_core.specs.declared.SenderCore.{SenderCore}
-use Rattle.yapp_core.specs.Core.{settingsBy, nowhere, shownIn}
+use Rattle.yapp_core.specs.Core.{settingsBy, nowhere, heard, shownIn}
 use Rattle.yapp_sending.specs.declared.Event.{Event}
 use Rattle.yapp_sending.specs.Sending.{happensBy}
 use Rattle.yapp_answering.specs.declared.Answer.{Answer}
@@ -66,9 +65,6 @@ unless WrongLength c r reply left = leftAs (refusedAs c r WrongLength) reply
 
 abbrev pub statusOf : SenderCore → List ℕ → List ℕ → Status
 statusOf c file reply = checkOf (senderEnded (c .state)) (length reply) 0 (length file) (c .size)
-
-abbrev pub heard : Received → Content
-heard g = contentOf (g .reader .pending) (g .packet)
 
 -- what a reader has found, the sender being in YappC or not
 abbrev pub arrives : SenderCore → Bool → Received → List ℕ → List ℕ → Left

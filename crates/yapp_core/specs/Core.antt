@@ -12,7 +12,7 @@ use Rattle.fields.specs.declared.Stamp.the-variants.{Absent}
 use Rattle.spans.specs.Span.{sizeOf}
 use Rattle.packets.specs.Packet.{placeOf}
 use Rattle.packets.specs.Kind.{TX, partsOf}
-use Rattle.packets.specs.Content.{Content}
+use Rattle.packets.specs.Content.{Content, contentOf}
 use Rattle.reader.specs.declared.Received.{Received}
 use Rattle.calls.specs.declared.Outcome.{Outcome}
 use Rattle.calls.specs.declared.Outcome.the-variants.{NameOutside, LengthOutside, BlockOutside}
@@ -53,6 +53,10 @@ settingsBy k name = record {
 
 abbrev pub nowhere : Place
 nowhere = record { start = 0; len = 0 }
+
+-- what a reader has found
+abbrev pub heard : Received → Content
+heard g = contentOf (g .reader .pending) (g .packet)
 
 abbrev pub isSD : SenderState → Bool
 isSD (S begun timeouts) = false

@@ -8,12 +8,12 @@ use Rattle.reader.specs.Reader.{receive as reads}
 use Rattle.calls.specs.declared.Status.{Status}
 use Rattle.calls.specs.declared.Status.the-variants.{Taken, Over, LongFrame, SmallReply, WrongLength}
 use Rattle.yapp.specs.Steps.{SenderMove, senderTakes}
-use Rattle.yapp_core.specs.Core.{nowhere, shownIn}
+use Rattle.yapp_core.specs.Core.{nowhere, heard, shownIn}
 use Rattle.yapp_sending.specs.declared.Event.{Event}
 use Rattle.yapp_sending.specs.Sending.{happensBy}
 use Rattle.yapp_answering.specs.Calls.{leftBy, unless, receives, settles}
 use Rattle.yapp_sender.specs.declared.Sender.{Sender}
-use Rattle.yapp_sender.specs.Sender.{unlessRefused, statusOf, replied, settingsOf, heard, receive}
+use Rattle.yapp_sender.specs.Sender.{unlessRefused, statusOf, replied, settingsOf, receive}
 use Rattle.yapp_sender.specs.Acts.{afterBy, settledBy}
 
 module _ (m : Sender) (file reply : List ℕ) where

@@ -6,7 +6,6 @@ use lib.ListN.{length, replicate}
 use Rattle.fields.specs.Buffer.{over, appended}
 use Rattle.fields.specs.declared.Place.{Place}
 use Rattle.fields.specs.declared.Stamp.{Stamp}
-use Rattle.packets.specs.Content.{Content, contentOf}
 use Rattle.reader.specs.declared.Reader.{Reader}
 use Rattle.reader.specs.declared.Received.{Received}
 use Rattle.reader.specs.Reader.{fresh, checking, receive as reads}
@@ -15,7 +14,7 @@ use Rattle.calls.specs.declared.Status.{Status}
 use Rattle.calls.specs.declared.Status.the-variants.{Taken, Over, LongFrame, SmallReply, WrongLength}
 use Rattle.calls.specs.Checks.{checkOf}
 use Rattle.yapp.specs.Steps.{writes, SenderSettings, SenderMove, senderTakes, senderLeaves, senderTimes, senderStops, senderEnded}
-use Rattle.yapp_core.specs.Core.{refusedCore, begunCore, begunWithin, settingsBy, nowhere, shownIn}
+use Rattle.yapp_core.specs.Core.{refusedCore, begunCore, begunWithin, settingsBy, nowhere, heard, shownIn}
 use Rattle.yapp_sender.specs.declared.Sender.{Sender}
 use Rattle.yapp_sender.specs.declared.SenderAnswer.{SenderAnswer}
 
@@ -91,9 +90,6 @@ unfoldable pub transmit : Sender → List ℕ → List ℕ → SenderAfter
 transmit m file reply =
     unlessRefused (statusOf m file reply) m reply
     (replied m (m .reader) 0 nowhere (senderLeaves (settingsOf m) file (m .core .state) (m .reader .checked)) reply)
-
-abbrev pub heard : Received → Content
-heard g = contentOf (g .reader .pending) (g .packet)
 
 abbrev pub arrived : Sender → Received → List ℕ → SenderAfter
 arrived m g reply =
