@@ -1,59 +1,32 @@
 -- Laws of the receiver's calls, one for each case. Assumes nothing.
-use mathlib.Core.Path.{_≡_, refl, ap, sym, _∙_}
-use mathlib.Core.Bool.{Bool, true, false}
+use mathlib.Core.Path.{_≡_, ap, sym, _∙_}
+use mathlib.Core.Bool.{true, false}
 use mathlib.Core.List.{List, []}
 use mathlib.Core.Option.{Option}
 use Prim.Native.Nat.{ℕ}
-use native.Mathlib.Omega.{arith}
 use lib.ListN.{length}
 use Rattle.records.specs.Saved.{Saved}
 use Rattle.calls.specs.declared.Outcome.{Outcome}
 use Rattle.calls.specs.declared.Keeping.{Keeping}
-use Rattle.calls.specs.declared.Status.{Status}
-use Rattle.calls.specs.declared.Status.the-variants.{Taken, Over, LongFrame, SmallReply, WrongLength}
 use Rattle.calls.specs.Checks.{isTaken}
 use Rattle.calls.specs.Saving.{heldOf, savedBy}
 use Rattle.calls.proofs.Names.{held-saved, held-held}
+use Rattle.calls.proofs.Laws.{unless-taken, unless-refused}
 use Rattle.bin.specs.declared.ReceiverState.{ReceiverState}
 use Rattle.bin.specs.Steps.{ReceiverSettings, receiverTakes, receiverFails}
 use Rattle.bin_steps.specs.Steps.{nowhere, doneAs}
 use Rattle.bin_receiving.specs.Deciding.{frameStep, failStep}
 use Rattle.bin_checks.specs.Shown.{shownIn}
-use Rattle.bin_calls.specs.Calls.{Left, leftAs, leftBy, refusedAs, unless, statusOf, receives, fails, leaves}
+use Rattle.bin_calls.specs.Calls.{Left, leftAs, leftBy, refusedAs, refusedLeft, statusOf, receives, fails, leaves}
 use Rattle.bin_calls.proofs.Steps.{takes-is, fails-is}
 
-never : {A : Type 0} → false ≡ true → A
-never h = absurd (let z : _≡_ {A = ℕ} 0 1 = cc h in omega arith)
-
-never′ : {A : Type 0} → true ≡ false → A
-never′ h = absurd (let z : _≡_ {A = ℕ} 0 1 = cc h in omega arith)
-
--- what a call knows that asked for its status and whether it is taken
-pub taken-by : {s t : Status} {b x : Bool} → s ≡ t → b ≡ isTaken s → b ≡ x → isTaken t ≡ x
-taken-by p q r = ap isTaken (sym p) ∙ sym q ∙ r
-
 module _ (st : ReceiverState) (k : Keeping) (name area reply : List ℕ) where
-  unless-taken : (s : Status) (left : Left) → isTaken s ≡ true → unless s st k name area reply left ≡ left
-  unless-taken Taken left h = refl
-  unless-taken Over left h = never h
-  unless-taken LongFrame left h = never h
-  unless-taken SmallReply left h = never h
-  unless-taken WrongLength left h = never h
-
-  unless-refused : (s : Status) (left : Left) → isTaken s ≡ false
-      → unless s st k name area reply left ≡ leftAs (refusedAs s st k) name area reply
-  unless-refused Taken left h = never′ h
-  unless-refused Over left h = refl
-  unless-refused LongFrame left h = refl
-  unless-refused SmallReply left h = refl
-  unless-refused WrongLength left h = refl
-
   pub receive-taken : (t : ReceiverSettings) (f : List ℕ) → isTaken (statusOf st (t .room) (length f) area reply) ≡ true
       → receives t st k name f area reply
       ≡ leaves name (shownIn st f) f reply (frameStep (t .room) (t .resumes) st (heldOf k name) f name area)
   unfolding receives
   receive-taken t f h =
-      unless-taken (statusOf st (t .room) (length f) area reply) (leftBy (shownIn st f) (receiverTakes t st (savedBy k name) area f) name reply) h
+      unless-taken (refusedLeft st k name area reply) (leftBy (shownIn st f) (receiverTakes t st (savedBy k name) area f) name reply) (statusOf st (t .room) (length f) area reply) h
       ∙ ap (λ (v : Option Saved). leftBy (shownIn st f) (receiverTakes t st v area f) name reply) (sym (held-saved k name))
       ∙ takes-is name (shownIn st f) f reply t st (heldOf k name) area (held-held k name)
 
@@ -61,13 +34,13 @@ module _ (st : ReceiverState) (k : Keeping) (name area reply : List ℕ) where
       → receives t st k name f area reply ≡ leftAs (refusedAs (statusOf st (t .room) (length f) area reply) st k) name area reply
   unfolding receives
   receive-refused t f h =
-      unless-refused (statusOf st (t .room) (length f) area reply) (leftBy (shownIn st f) (receiverTakes t st (savedBy k name) area f) name reply) h
+      unless-refused (refusedLeft st k name area reply) (leftBy (shownIn st f) (receiverTakes t st (savedBy k name) area f) name reply) (statusOf st (t .room) (length f) area reply) h
 
   pub fail-taken : (o : Outcome) (room : ℕ) → isTaken (statusOf st room 0 area reply) ≡ true
       → fails o room st k name area reply ≡ leaves name nowhere [] reply (doneAs (failStep o st (heldOf k name)) area)
   unfolding fails
   fail-taken o room h =
-      unless-taken (statusOf st room 0 area reply) (leftBy nowhere (receiverFails o st (savedBy k name) area) name reply) h
+      unless-taken (refusedLeft st k name area reply) (leftBy nowhere (receiverFails o st (savedBy k name) area) name reply) (statusOf st room 0 area reply) h
       ∙ ap (λ (v : Option Saved). leftBy nowhere (receiverFails o st v area) name reply) (sym (held-saved k name))
       ∙ fails-is name nowhere [] reply o st (heldOf k name) area (held-held k name)
 
@@ -75,4 +48,4 @@ module _ (st : ReceiverState) (k : Keeping) (name area reply : List ℕ) where
       → fails o room st k name area reply ≡ leftAs (refusedAs (statusOf st room 0 area reply) st k) name area reply
   unfolding fails
   fail-refused o room h =
-      unless-refused (statusOf st room 0 area reply) (leftBy nowhere (receiverFails o st (savedBy k name) area) name reply) h
+      unless-refused (refusedLeft st k name area reply) (leftBy nowhere (receiverFails o st (savedBy k name) area) name reply) (statusOf st room 0 area reply) h

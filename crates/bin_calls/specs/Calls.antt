@@ -8,8 +8,8 @@ use Rattle.fields.specs.declared.Place.{Place}
 use Rattle.calls.specs.declared.Outcome.{Outcome}
 use Rattle.calls.specs.declared.Keeping.{Keeping}
 use Rattle.calls.specs.declared.Status.{Status}
-use Rattle.calls.specs.declared.Status.the-variants.{Taken, Over, LongFrame, SmallReply, WrongLength}
-use Rattle.calls.specs.Checks.{checkOf}
+use Rattle.calls.specs.declared.Status.the-variants.{Taken}
+use Rattle.calls.specs.Checks.{checkOf, unless}
 use Rattle.calls.specs.Saving.{savedBy, keepingOf, nameOf}
 use Rattle.bin.specs.declared.ReceiverState.{ReceiverState}
 use Rattle.bin.specs.Steps.{joined, ReceiverSettings, ReceiverMove, receiverTakes, receiverFails, receiverEnded}
@@ -49,12 +49,8 @@ leftBy shown a name reply = record {
   reply = over 0 (joined (a .out)) reply;
 }
 
-abbrev pub unless : Status → ReceiverState → Keeping → List ℕ → List ℕ → List ℕ → Left → Left
-unless Taken st k name area reply left = left
-unless Over st k name area reply left = leftAs (refusedAs Over st k) name area reply
-unless LongFrame st k name area reply left = leftAs (refusedAs LongFrame st k) name area reply
-unless SmallReply st k name area reply left = leftAs (refusedAs SmallReply st k) name area reply
-unless WrongLength st k name area reply left = leftAs (refusedAs WrongLength st k) name area reply
+abbrev pub refusedLeft : ReceiverState → Keeping → List ℕ → List ℕ → List ℕ → Status → Left
+refusedLeft st k name area reply s = leftAs (refusedAs s st k) name area reply
 
 abbrev pub statusOf : ReceiverState → ℕ → ℕ → List ℕ → List ℕ → Status
 statusOf st room frame area reply = checkOf (receiverEnded st) (length reply) frame (length area) room
@@ -62,13 +58,13 @@ statusOf st room frame area reply = checkOf (receiverEnded st) (length reply) fr
 -- a frame has arrived
 unfoldable pub receives : ReceiverSettings → ReceiverState → Keeping → List ℕ → List ℕ → List ℕ → List ℕ → Left
 receives t st k name f area reply =
-    unless (statusOf st (t .room) (length f) area reply) st k name area reply
+    unless (statusOf st (t .room) (length f) area reply) (refusedLeft st k name area reply)
     (leftBy (shownIn st f) (receiverTakes t st (savedBy k name) area f) name reply)
 
 -- timer or operator's stop
 unfoldable pub fails : Outcome → ℕ → ReceiverState → Keeping → List ℕ → List ℕ → List ℕ → Left
 fails o room st k name area reply =
-    unless (statusOf st room 0 area reply) st k name area reply (leftBy nowhere (receiverFails o st (savedBy k name) area) name reply)
+    unless (statusOf st room 0 area reply) (refusedLeft st k name area reply) (leftBy nowhere (receiverFails o st (savedBy k name) area) name reply)
 
 -- ---- by the step that was decided
 

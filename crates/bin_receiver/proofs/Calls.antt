@@ -14,13 +14,14 @@ use Rattle.records.specs.Saved.{savedOf}
 use Rattle.calls.specs.declared.Keeping.{Keeping}
 use Rattle.calls.specs.declared.Outcome.{Outcome}
 use Rattle.calls.specs.declared.Status.{Status}
-use Rattle.calls.specs.declared.Status.the-variants.{Taken, Over, LongFrame, SmallReply, WrongLength}
+use Rattle.calls.specs.Checks.{unless}
 use Rattle.calls.specs.Saving.{isWithin}
+use Rattle.calls.proofs.Laws.{unless-ap}
 use Rattle.bin.specs.declared.ReceiverState.{ReceiverState}
 use Rattle.bin.specs.Steps.{ReceiverMove, receiverTakes, receiverFails}
 use Rattle.bin_checks.specs.declared.Begun.{Begun}
 use Rattle.bin_checks.specs.Begun.{begunWith, begunBy}
-use Rattle.bin_calls.specs.Calls.{Left, leftBy, unless, receives, fails}
+use Rattle.bin_calls.specs.Calls.{Left, leftBy, refusedLeft, receives, fails}
 use Rattle.bin_calls.proofs.Steps.{pick-both}
 use Rattle.bin_receiver.specs.declared.Receiver.{Receiver}
 use Rattle.bin_receiver.specs.declared.ReceiverAnswer.{ReceiverAnswer}
@@ -34,12 +35,9 @@ done x l = record { answer = x; area = l .area; reply = l .reply }
 module _ (m : Receiver) (area reply : List ℕ) where
   answered-is : (shown : Place) (a : ReceiverMove) (s : Status)
       → unlessRefused s m area reply (replied m shown a reply)
-      ≡ afterBy m (unless s (m .core .state) (m .core .keeping) (m .name) area reply (leftBy shown a (m .name) reply))
-  answered-is shown a Taken = refl
-  answered-is shown a Over = refl
-  answered-is shown a LongFrame = refl
-  answered-is shown a SmallReply = refl
-  answered-is shown a WrongLength = refl
+      ≡ afterBy m (unless s (refusedLeft (m .core .state) (m .core .keeping) (m .name) area reply) (leftBy shown a (m .name) reply))
+  answered-is shown a s =
+      sym (unless-ap (afterBy m) (refusedLeft (m .core .state) (m .core .keeping) (m .name) area reply) (leftBy shown a (m .name) reply) s)
 
   receive-is : (f : List ℕ)
       → receive m f area reply ≡ afterBy m (receives (settingsOf m) (m .core .state) (m .core .keeping) (m .name) f area reply)

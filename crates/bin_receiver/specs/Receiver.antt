@@ -16,8 +16,8 @@ use Rattle.records.specs.Saved.{Saved, savedOf}
 use Rattle.calls.specs.declared.Outcome.{Outcome}
 use Rattle.calls.specs.declared.Outcome.the-variants.{RecordUnreadable, RecordOver, TimedOut, Stopped}
 use Rattle.calls.specs.declared.Status.{Status}
-use Rattle.calls.specs.declared.Status.the-variants.{Taken, Over, LongFrame, SmallReply, WrongLength}
-use Rattle.calls.specs.Checks.{checkOf}
+use Rattle.calls.specs.declared.Status.the-variants.{Taken}
+use Rattle.calls.specs.Checks.{checkOf, unless}
 use Rattle.calls.specs.Saving.{savedBy, keepingOf, nameOf, formBy}
 use Rattle.bin.specs.declared.ReceiverState.{ReceiverState}
 use Rattle.bin.specs.declared.ReceiverState.the-variants.{Waiting, Ended}
@@ -94,11 +94,7 @@ abbrev pub statusOf : Receiver → ℕ → List ℕ → List ℕ → Status
 statusOf m frame area reply = checkOf (receiverEnded (m .core .state)) (length reply) frame (length area) (m .core .room)
 
 abbrev pub unlessRefused : Status → Receiver → List ℕ → List ℕ → ReceiverAfter → ReceiverAfter
-unlessRefused Taken m area reply after = after
-unlessRefused Over m area reply after = refusedCall m Over area reply
-unlessRefused LongFrame m area reply after = refusedCall m LongFrame area reply
-unlessRefused SmallReply m area reply after = refusedCall m SmallReply area reply
-unlessRefused WrongLength m area reply after = refusedCall m WrongLength area reply
+unlessRefused s m area reply after = unless s (λ (x : Status). refusedCall m x area reply) after
 
 -- leave changes nothing
 unfoldable pub transmit : Receiver → List ℕ → List ℕ → ReceiverAfter

@@ -10,8 +10,8 @@ use Rattle.fields.specs.Buffer.{over, appended}
 use Rattle.calls.specs.declared.Outcome.{Outcome}
 use Rattle.calls.specs.declared.Outcome.the-variants.{NameOutside, LengthOutside, BlockOutside, TimedOut, Stopped}
 use Rattle.calls.specs.declared.Status.{Status}
-use Rattle.calls.specs.declared.Status.the-variants.{Taken, Over, LongFrame, SmallReply, WrongLength}
-use Rattle.calls.specs.Checks.{checkOf}
+use Rattle.calls.specs.declared.Status.the-variants.{Taken}
+use Rattle.calls.specs.Checks.{checkOf, unless}
 use Rattle.bin.specs.declared.Announce.{Announce}
 use Rattle.bin.specs.declared.Announce.the-variants.{Basic, Extended}
 use Rattle.bin.specs.declared.SenderState.{SenderState}
@@ -89,11 +89,7 @@ abbrev pub statusOf : Sender → ℕ → List ℕ → List ℕ → Status
 statusOf m frame file reply = checkOf (senderEnded (m .core .state)) (length reply) frame (length file) (m .core .size)
 
 abbrev pub unlessRefused : Status → Sender → List ℕ → SenderAfter → SenderAfter
-unlessRefused Taken m reply after = after
-unlessRefused Over m reply after = refusedCall m Over reply
-unlessRefused LongFrame m reply after = refusedCall m LongFrame reply
-unlessRefused SmallReply m reply after = refusedCall m SmallReply reply
-unlessRefused WrongLength m reply after = refusedCall m WrongLength reply
+unlessRefused s m reply after = unless s (λ (x : Status). refusedCall m x reply) after
 
 -- leave
 unfoldable pub transmit : Sender → List ℕ → List ℕ → SenderAfter

@@ -1,5 +1,5 @@
 -- What a call that is taken may rely on, and what a writer has then laid into the reply buffer. Assumes nothing.
-use mathlib.Core.Path.{_≡_, refl, sym, _∙_}
+use mathlib.Core.Path.{_≡_, refl, ap, sym, _∙_}
 use mathlib.Core.Bool.{Bool, true, false}
 use mathlib.Core.List.{List}
 use Prim.Native.Nat.{ℕ, _≤_}
@@ -10,7 +10,9 @@ use borrow.Author.Tests.{ltb-false, eqb-true, le-ltb}
 use Rattle.fields.specs.declared.Written.{Written}
 use Rattle.fields.specs.Buffer.{Form, formless, bytes, bytesIn, over, writtenOf, leftOf}
 use Rattle.fields.proofs.Buffer.{over-none}
-use Rattle.calls.specs.Checks.{checkOf, isTaken}
+use Rattle.calls.specs.declared.Status.{Status}
+use Rattle.calls.specs.declared.Status.the-variants.{Taken, Over, LongFrame, SmallReply, WrongLength}
+use Rattle.calls.specs.Checks.{checkOf, isTaken, unless}
 use Rattle.calls.specs.Count.{countOf}
 
 -- a call that is taken has room for a reply, a frame of at most 256 bytes, and the right file or area
@@ -26,6 +28,37 @@ taken-room ended reply frame lent given h = go ended refl (ltb reply 259) refl (
     go false p false q true s l t = let z : false ≡ true = rw (p, q, s) at h in let o : _≡_ {A = ℕ} 0 1 = cc in absurd (omega arith)
     go false p false q false s false t = let z : false ≡ true = rw (p, q, s, t) at h in let o : _≡_ {A = ℕ} 0 1 = cc in absurd (omega arith)
     go false p false q false s true t = (ltb-false reply 259 q, ltb-false 256 frame s, eqb-true lent given t)
+
+-- what a call knows that asked for its status and whether it is taken
+pub taken-by : {s t : Status} {b x : Bool} → s ≡ t → b ≡ isTaken s → b ≡ x → isTaken t ≡ x
+taken-by p q r = ap isTaken (sym p) ∙ sym q ∙ r
+
+never : {A : Type 0} → false ≡ true → A
+never h = absurd (let z : _≡_ {A = ℕ} 0 1 = cc h in omega arith)
+
+module _ {A : Type 0} (refused : Status → A) (does : A) where
+  pub unless-taken : (s : Status) → isTaken s ≡ true → unless s refused does ≡ does
+  unless-taken Taken h = refl
+  unless-taken Over h = never h
+  unless-taken LongFrame h = never h
+  unless-taken SmallReply h = never h
+  unless-taken WrongLength h = never h
+
+  pub unless-refused : (s : Status) → isTaken s ≡ false → unless s refused does ≡ refused s
+  unless-refused Taken h = never (sym h)
+  unless-refused Over h = refl
+  unless-refused LongFrame h = refl
+  unless-refused SmallReply h = refl
+  unless-refused WrongLength h = refl
+
+-- a call that leaves what another leaves, put another way
+pub unless-ap : {A B : Type 0} (f : A → B) (refused : Status → A) (does : A) (s : Status)
+    → f (unless s refused does) ≡ unless s (λ (t : Status). f (refused t)) (f does)
+unless-ap f refused does Taken = refl
+unless-ap f refused does Over = refl
+unless-ap f refused does LongFrame = refl
+unless-ap f refused does SmallReply = refl
+unless-ap f refused does WrongLength = refl
 
 -- a writer lent a reply buffer that is long enough has laid down what its form has; what has no form is nothing
 pub wrote : (f : Form) (d e : List ℕ) (w : Written) → 259 ≤ length d → (w ≡ writtenOf 259 f d) × (e ≡ leftOf 259 f d)

@@ -22,3 +22,11 @@ isTaken Over = false
 isTaken LongFrame = false
 isTaken SmallReply = false
 isTaken WrongLength = false
+
+-- what a call leaves: one that is taken what it does, any other what its refusal leaves
+abbrev pub unless : {A : Type 0} → Status → (Status → A) → A → A
+unless Taken refused does = does
+unless Over refused does = refused Over
+unless LongFrame refused does = refused LongFrame
+unless SmallReply refused does = refused SmallReply
+unless WrongLength refused does = refused WrongLength

@@ -9,8 +9,8 @@ use Rattle.reader.specs.declared.Reader.{Reader}
 use Rattle.reader.specs.declared.Received.{Received}
 use Rattle.reader.specs.Reader.{checking, receive as reads}
 use Rattle.calls.specs.declared.Status.{Status}
-use Rattle.calls.specs.declared.Status.the-variants.{Taken, Over, LongFrame, SmallReply, WrongLength}
-use Rattle.calls.specs.Checks.{checkOf}
+use Rattle.calls.specs.declared.Status.the-variants.{Taken}
+use Rattle.calls.specs.Checks.{checkOf, unless}
 use Rattle.yapp.specs.declared.SenderState.{SenderState}
 use Rattle.yapp.specs.Steps.{writes, SenderMove, senderTakes, senderEnded}
 use Rattle.yapp_core.specs.declared.SenderCore.{SenderCore}
@@ -56,12 +56,8 @@ leftBy c r taken shown a reply = record {
   reply = over 0 (writes (a .checked) (a .out)) reply;
 }
 
-abbrev pub unless : Status → SenderCore → Reader → List ℕ → Left → Left
-unless Taken c r reply left = left
-unless Over c r reply left = leftAs (refusedAs c r Over) reply
-unless LongFrame c r reply left = leftAs (refusedAs c r LongFrame) reply
-unless SmallReply c r reply left = leftAs (refusedAs c r SmallReply) reply
-unless WrongLength c r reply left = leftAs (refusedAs c r WrongLength) reply
+abbrev pub refusedLeft : SenderCore → Reader → List ℕ → Status → Left
+refusedLeft c r reply s = leftAs (refusedAs c r s) reply
 
 abbrev pub statusOf : SenderCore → List ℕ → List ℕ → Status
 statusOf c file reply = checkOf (senderEnded (c .state)) (length reply) 0 (length file) (c .size)
@@ -74,10 +70,10 @@ arrives c checked g name reply =
 -- bytes have arrived
 unfoldable pub receives : SenderCore → Reader → List ℕ → List ℕ → List ℕ → List ℕ → Left
 receives c r name chunk file reply =
-    unless (statusOf c file reply) c r reply (arrives c (r .checked) (reads r chunk) name reply)
+    unless (statusOf c file reply) (refusedLeft c r reply) (arrives c (r .checked) (reads r chunk) name reply)
 
 -- an event with which no bytes come
 unfoldable pub settles : Event → SenderCore → Reader → List ℕ → List ℕ → List ℕ → Left
 settles e c r name file reply =
-    unless (statusOf c file reply) c r reply
+    unless (statusOf c file reply) (refusedLeft c r reply)
     (leftBy c r 0 nowhere (happensBy (settingsBy c name) file e (c .state) (r .checked)) reply)

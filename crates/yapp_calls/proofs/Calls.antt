@@ -1,9 +1,8 @@
 -- What the calls leave, from what a step leaves. Assumes nothing.
-use mathlib.Core.Path.{_≡_, refl, ap, sym, _∙_}
+use mathlib.Core.Path.{_≡_, ap, sym, _∙_}
 use mathlib.Core.Bool.{Bool, true, false}
 use mathlib.Core.List.{List}
 use Prim.Native.Nat.{ℕ}
-use native.Mathlib.Omega.{arith}
 use lib.ListN.{length}
 use Rattle.fields.specs.Buffer.{over}
 use Rattle.packets.specs.Content.{contentOf}
@@ -11,21 +10,15 @@ use Rattle.reader.specs.declared.Reader.{Reader}
 use Rattle.reader.specs.declared.Received.{Received}
 use Rattle.reader.specs.Reader.{checking, receive as reads}
 use Rattle.calls.specs.declared.Status.{Status}
-use Rattle.calls.specs.declared.Status.the-variants.{Taken, Over, LongFrame, SmallReply, WrongLength}
+use Rattle.calls.specs.declared.Status.the-variants.{Taken}
 use Rattle.calls.specs.Checks.{isTaken}
+use Rattle.calls.proofs.Laws.{unless-taken, unless-refused}
 use Rattle.yapp.specs.Steps.{writes, ReceiverMove, receiverTakes}
 use Rattle.yapp_steps.specs.declared.ReceiverCore.{ReceiverCore}
 use Rattle.yapp_steps.specs.declared.Step.{Step}
 use Rattle.yapp_steps.specs.Receiving.{Reached, reached, reachedBy, settingsIn, currentIn, settingsBy, nowBy}
 use Rattle.yapp_calls.specs.declared.Event.{Event}
-use Rattle.yapp_calls.specs.Calls.{Left, leftAs, leftBy, coreAt, refusedAs, unless, statusOf, arrives, receives, moveBy, settles, leaves}
-
-never : {A : Type 0} → false ≡ true → A
-never h = absurd (let z : _≡_ {A = ℕ} 0 1 = cc h in omega arith)
-
--- what a call knows that asked for its status and whether it is taken
-pub taken-by : {s t : Status} {b x : Bool} → s ≡ t → b ≡ isTaken s → b ≡ x → isTaken t ≡ x
-taken-by p q r = ap isTaken (sym p) ∙ sym q ∙ r
+use Rattle.yapp_calls.specs.Calls.{Left, leftAs, leftBy, coreAt, refusedAs, refusedLeft, statusOf, arrives, receives, moveBy, settles, leaves}
 
 -- ---- what a step leaves
 
@@ -63,37 +56,22 @@ arrives-is c k checked g h name area reply s a e f q =
 -- ---- whether a call is taken
 
 module _ (c : ReceiverCore) (r : Reader) (name area reply : List ℕ) where
-  unless-taken : (s : Status) (left : Left) → isTaken s ≡ true → unless s c r name area reply left ≡ left
-  unless-taken Taken left h = refl
-  unless-taken Over left h = never h
-  unless-taken LongFrame left h = never h
-  unless-taken SmallReply left h = never h
-  unless-taken WrongLength left h = never h
-
-  unless-refused : (s : Status) (left : Left) → isTaken s ≡ false
-      → unless s c r name area reply left ≡ leftAs (refusedAs c r s) name area reply
-  unless-refused Taken left h = never (sym h)
-  unless-refused Over left h = refl
-  unless-refused LongFrame left h = refl
-  unless-refused SmallReply left h = refl
-  unless-refused WrongLength left h = refl
-
   pub receive-taken : (chunk : List ℕ) → isTaken (statusOf c area reply) ≡ true
       → receives c r name chunk area reply ≡ arrives c (r .checked) (reads r chunk) name area reply
   unfolding receives
-  receive-taken chunk h = unless-taken (statusOf c area reply) (arrives c (r .checked) (reads r chunk) name area reply) h
+  receive-taken chunk h = unless-taken (refusedLeft c r name area reply) (arrives c (r .checked) (reads r chunk) name area reply) (statusOf c area reply) h
 
   pub receive-refused : (chunk : List ℕ) → isTaken (statusOf c area reply) ≡ false
       → receives c r name chunk area reply ≡ leftAs (refusedAs c r (statusOf c area reply)) name area reply
   unfolding receives
-  receive-refused chunk h = unless-refused (statusOf c area reply) (arrives c (r .checked) (reads r chunk) name area reply) h
+  receive-refused chunk h = unless-refused (refusedLeft c r name area reply) (arrives c (r .checked) (reads r chunk) name area reply) (statusOf c area reply) h
 
   pub settle-taken : (e : Event) (k : Bool) (s : Step) → isTaken (statusOf c area reply) ≡ true → k ≡ r .checked
       → ((a p : List ℕ) → reached name (moveBy e (nowBy (currentIn c k) name) a (c .state)) ≡ reachedBy p name s a)
       → settles e c r name area reply ≡ leaves c r 0 s name area reply
   unfolding settles
   settle-taken e k s h q f =
-      unless-taken (statusOf c area reply) (leftBy c r 0 (moveBy e (nowBy (currentIn c (r .checked)) name) area (c .state)) name reply) h
+      unless-taken (refusedLeft c r name area reply) (leftBy c r 0 (moveBy e (nowBy (currentIn c (r .checked)) name) area (c .state)) name reply) (statusOf c area reply) h
       ∙ ap (λ (x : Bool). leftBy c r 0 (moveBy e (nowBy (currentIn c x) name) area (c .state)) name reply) (sym q)
       ∙ left-is c r 0 reply name (moveBy e (nowBy (currentIn c k) name) area (c .state)) s area (f area (r .pending))
 
@@ -101,4 +79,4 @@ module _ (c : ReceiverCore) (r : Reader) (name area reply : List ℕ) where
       → settles e c r name area reply ≡ leftAs (refusedAs c r (statusOf c area reply)) name area reply
   unfolding settles
   settle-refused e h =
-      unless-refused (statusOf c area reply) (leftBy c r 0 (moveBy e (nowBy (currentIn c (r .checked)) name) area (c .state)) name reply) h
+      unless-refused (refusedLeft c r name area reply) (leftBy c r 0 (moveBy e (nowBy (currentIn c (r .checked)) name) area (c .state)) name reply) (statusOf c area reply) h

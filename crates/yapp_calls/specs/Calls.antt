@@ -11,8 +11,8 @@ use Rattle.reader.specs.declared.Received.{Received}
 use Rattle.reader.specs.Reader.{checking, receive as reads}
 use Rattle.calls.specs.declared.Keeping.{Keeping}
 use Rattle.calls.specs.declared.Status.{Status}
-use Rattle.calls.specs.declared.Status.the-variants.{Taken, Over, LongFrame, SmallReply, WrongLength}
-use Rattle.calls.specs.Checks.{checkOf}
+use Rattle.calls.specs.declared.Status.the-variants.{Taken}
+use Rattle.calls.specs.Checks.{checkOf, unless}
 use Rattle.calls.specs.Saving.{keepingOf, nameOf}
 use Rattle.yapp.specs.declared.ReceiverState.{ReceiverState}
 use Rattle.yapp.specs.Steps.{writes, ReceiverNow, ReceiverMove, receiverTakes, receiverTimes, receiverStops, receiverEnded}
@@ -57,12 +57,8 @@ leftBy c r taken a name reply = record {
   reply = over 0 (writes (a .checked) (a .out)) reply;
 }
 
-abbrev pub unless : Status → ReceiverCore → Reader → List ℕ → List ℕ → List ℕ → Left → Left
-unless Taken c r name area reply left = left
-unless Over c r name area reply left = leftAs (refusedAs c r Over) name area reply
-unless LongFrame c r name area reply left = leftAs (refusedAs c r LongFrame) name area reply
-unless SmallReply c r name area reply left = leftAs (refusedAs c r SmallReply) name area reply
-unless WrongLength c r name area reply left = leftAs (refusedAs c r WrongLength) name area reply
+abbrev pub refusedLeft : ReceiverCore → Reader → List ℕ → List ℕ → List ℕ → Status → Left
+refusedLeft c r name area reply s = leftAs (refusedAs c r s) name area reply
 
 abbrev pub statusOf : ReceiverCore → List ℕ → List ℕ → Status
 statusOf c area reply = checkOf (receiverEnded (c .state)) (length reply) 0 (length area) (c .room)
@@ -76,7 +72,7 @@ arrives c checked g name area reply =
 -- bytes have arrived
 unfoldable pub receives : ReceiverCore → Reader → List ℕ → List ℕ → List ℕ → List ℕ → Left
 receives c r name chunk area reply =
-    unless (statusOf c area reply) c r name area reply (arrives c (r .checked) (reads r chunk) name area reply)
+    unless (statusOf c area reply) (refusedLeft c r name area reply) (arrives c (r .checked) (reads r chunk) name area reply)
 
 abbrev pub moveBy : Event → ReceiverNow → List ℕ → ReceiverState → ReceiverMove
 moveBy Timer n area st = receiverTimes n area st
@@ -85,7 +81,7 @@ moveBy Stop n area st = receiverStops n area st
 -- timer or operator's stop
 unfoldable pub settles : Event → ReceiverCore → Reader → List ℕ → List ℕ → List ℕ → Left
 settles e c r name area reply =
-    unless (statusOf c area reply) c r name area reply
+    unless (statusOf c area reply) (refusedLeft c r name area reply)
     (leftBy c r 0 (moveBy e (nowBy (currentIn c (r .checked)) name) area (c .state)) name reply)
 
 -- ---- by the step that was decided

@@ -1,5 +1,5 @@
 -- What the receiver's calls and beginnings are by what was decided below. Assumes nothing.
-use mathlib.Core.Path.{_≡_, refl}
+use mathlib.Core.Path.{_≡_, refl, sym}
 use mathlib.Core.Bool.{Bool, true, false}
 use mathlib.Core.List.{List}
 use Prim.Native.Nat.{ℕ}
@@ -14,13 +14,14 @@ use Rattle.records.specs.declared.RecordRead.the-variants.{Good, Unreadable}
 use Rattle.records.specs.Record.{recordOf}
 use Rattle.records.specs.Saved.{savedOf}
 use Rattle.calls.specs.declared.Status.{Status}
-use Rattle.calls.specs.declared.Status.the-variants.{Taken, Over, LongFrame, SmallReply, WrongLength}
+use Rattle.calls.specs.Checks.{unless}
 use Rattle.calls.specs.Saving.{isWithin}
+use Rattle.calls.proofs.Laws.{unless-ap}
 use Rattle.yapp.specs.Steps.{ReceiverMove, receiverTakes}
 use Rattle.yapp_checks.specs.declared.Begun.{Begun}
 use Rattle.yapp_checks.specs.Begun.{begunWith, begunBy}
 use Rattle.yapp_calls.specs.declared.Event.{Event}
-use Rattle.yapp_calls.specs.Calls.{leftBy, unless, moveBy, receives, settles}
+use Rattle.yapp_calls.specs.Calls.{leftBy, refusedLeft, moveBy, receives, settles}
 use Rattle.yapp_receiver.specs.declared.Receiver.{Receiver}
 use Rattle.yapp_receiver.specs.Receiver.{unlessRefused, statusOf, replied, settingsOf, nowOf, withSaved, resumeBy, resume, receive}
 use Rattle.yapp_receiver.specs.Answers.{begunAs, afterBy, settlesOf}
@@ -28,12 +29,9 @@ use Rattle.yapp_receiver.specs.Answers.{begunAs, afterBy, settlesOf}
 module _ (m : Receiver) (area reply : List ℕ) where
   answered-is : (r : Reader) (taken : ℕ) (a : ReceiverMove) (s : Status)
       → unlessRefused s m area reply (replied m r taken a reply)
-      ≡ afterBy (unless s (m .core) (m .reader) (m .name) area reply (leftBy (m .core) r taken a (m .name) reply))
-  answered-is r taken a Taken = refl
-  answered-is r taken a Over = refl
-  answered-is r taken a LongFrame = refl
-  answered-is r taken a SmallReply = refl
-  answered-is r taken a WrongLength = refl
+      ≡ afterBy (unless s (refusedLeft (m .core) (m .reader) (m .name) area reply) (leftBy (m .core) r taken a (m .name) reply))
+  answered-is r taken a s =
+      sym (unless-ap afterBy (refusedLeft (m .core) (m .reader) (m .name) area reply) (leftBy (m .core) r taken a (m .name) reply) s)
 
   pub receive-is : (chunk : List ℕ)
       → receive m chunk area reply ≡ afterBy (receives (m .core) (m .reader) (m .name) chunk area reply)

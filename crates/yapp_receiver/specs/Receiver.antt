@@ -20,8 +20,8 @@ use Rattle.calls.specs.declared.Keeping.the-variants.{Nothing}
 use Rattle.calls.specs.declared.Outcome.{Outcome}
 use Rattle.calls.specs.declared.Outcome.the-variants.{RecordUnreadable, RecordOver}
 use Rattle.calls.specs.declared.Status.{Status}
-use Rattle.calls.specs.declared.Status.the-variants.{Taken, Over, LongFrame, SmallReply, WrongLength}
-use Rattle.calls.specs.Checks.{checkOf}
+use Rattle.calls.specs.declared.Status.the-variants.{Taken}
+use Rattle.calls.specs.Checks.{checkOf, unless}
 use Rattle.calls.specs.Saving.{savedBy, keepingOf, nameOf, formBy}
 use Rattle.yapp.specs.declared.ReceiverState.{ReceiverState}
 use Rattle.yapp.specs.declared.ReceiverState.the-variants.{R, Ended}
@@ -107,11 +107,7 @@ abbrev pub statusOf : Receiver → List ℕ → List ℕ → Status
 statusOf m area reply = checkOf (receiverEnded (m .core .state)) (length reply) 0 (length area) (m .core .room)
 
 abbrev pub unlessRefused : Status → Receiver → List ℕ → List ℕ → ReceiverAfter → ReceiverAfter
-unlessRefused Taken m area reply after = after
-unlessRefused Over m area reply after = refusedCall m Over area reply
-unlessRefused LongFrame m area reply after = refusedCall m LongFrame area reply
-unlessRefused SmallReply m area reply after = refusedCall m SmallReply area reply
-unlessRefused WrongLength m area reply after = refusedCall m WrongLength area reply
+unlessRefused s m area reply after = unless s (λ (x : Status). refusedCall m x area reply) after
 
 -- leave changes nothing
 unfoldable pub transmit : Receiver → List ℕ → List ℕ → ReceiverAfter

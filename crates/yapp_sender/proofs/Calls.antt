@@ -1,17 +1,18 @@
 -- What the sender's calls are by what was decided below. Assumes nothing.
-use mathlib.Core.Path.{_≡_, refl}
+use mathlib.Core.Path.{_≡_, sym}
 use mathlib.Core.List.{List}
 use Prim.Native.Nat.{ℕ}
 use Rattle.fields.specs.declared.Place.{Place}
 use Rattle.reader.specs.declared.Reader.{Reader}
 use Rattle.reader.specs.Reader.{receive as reads}
 use Rattle.calls.specs.declared.Status.{Status}
-use Rattle.calls.specs.declared.Status.the-variants.{Taken, Over, LongFrame, SmallReply, WrongLength}
+use Rattle.calls.specs.Checks.{unless}
+use Rattle.calls.proofs.Laws.{unless-ap}
 use Rattle.yapp.specs.Steps.{SenderMove, senderTakes}
 use Rattle.yapp_core.specs.Core.{nowhere, heard, shownIn}
 use Rattle.yapp_sending.specs.declared.Event.{Event}
 use Rattle.yapp_sending.specs.Sending.{happensBy}
-use Rattle.yapp_answering.specs.Calls.{leftBy, unless, receives, settles}
+use Rattle.yapp_answering.specs.Calls.{leftBy, refusedLeft, receives, settles}
 use Rattle.yapp_sender.specs.declared.Sender.{Sender}
 use Rattle.yapp_sender.specs.Sender.{unlessRefused, statusOf, replied, settingsOf, receive}
 use Rattle.yapp_sender.specs.Acts.{afterBy, settledBy}
@@ -19,12 +20,9 @@ use Rattle.yapp_sender.specs.Acts.{afterBy, settledBy}
 module _ (m : Sender) (file reply : List ℕ) where
   answered-is : (r : Reader) (taken : ℕ) (shown : Place) (a : SenderMove) (s : Status)
       → unlessRefused s m reply (replied m r taken shown a reply)
-      ≡ afterBy (m .name) (unless s (m .core) (m .reader) reply (leftBy (m .core) r taken shown a reply))
-  answered-is r taken shown a Taken = refl
-  answered-is r taken shown a Over = refl
-  answered-is r taken shown a LongFrame = refl
-  answered-is r taken shown a SmallReply = refl
-  answered-is r taken shown a WrongLength = refl
+      ≡ afterBy (m .name) (unless s (refusedLeft (m .core) (m .reader) reply) (leftBy (m .core) r taken shown a reply))
+  answered-is r taken shown a s =
+      sym (unless-ap (afterBy (m .name)) (refusedLeft (m .core) (m .reader) reply) (leftBy (m .core) r taken shown a reply) s)
 
   pub receive-is : (chunk : List ℕ)
       → receive m chunk file reply ≡ afterBy (m .name) (receives (m .core) (m .reader) (m .name) chunk file reply)

@@ -11,8 +11,8 @@ use Rattle.reader.specs.declared.Received.{Received}
 use Rattle.reader.specs.Reader.{fresh, checking, receive as reads}
 use Rattle.calls.specs.declared.Outcome.{Outcome}
 use Rattle.calls.specs.declared.Status.{Status}
-use Rattle.calls.specs.declared.Status.the-variants.{Taken, Over, LongFrame, SmallReply, WrongLength}
-use Rattle.calls.specs.Checks.{checkOf}
+use Rattle.calls.specs.declared.Status.the-variants.{Taken}
+use Rattle.calls.specs.Checks.{checkOf, unless}
 use Rattle.yapp.specs.Steps.{writes, SenderSettings, SenderMove, senderTakes, senderLeaves, senderTimes, senderStops, senderEnded}
 use Rattle.yapp_core.specs.Core.{refusedCore, begunCore, begunWithin, settingsBy, nowhere, heard, shownIn}
 use Rattle.yapp_sender.specs.declared.Sender.{Sender}
@@ -79,11 +79,7 @@ abbrev pub statusOf : Sender → List ℕ → List ℕ → Status
 statusOf m file reply = checkOf (senderEnded (m .core .state)) (length reply) 0 (length file) (m .core .size)
 
 abbrev pub unlessRefused : Status → Sender → List ℕ → SenderAfter → SenderAfter
-unlessRefused Taken m reply after = after
-unlessRefused Over m reply after = refusedCall m Over reply
-unlessRefused LongFrame m reply after = refusedCall m LongFrame reply
-unlessRefused SmallReply m reply after = refusedCall m SmallReply reply
-unlessRefused WrongLength m reply after = refusedCall m WrongLength reply
+unlessRefused s m reply after = unless s (λ (x : Status). refusedCall m x reply) after
 
 -- leave
 unfoldable pub transmit : Sender → List ℕ → List ℕ → SenderAfter

@@ -1,8 +1,8 @@
 -- `fail` checks the call, and ends what has not ended. Assumes nothing.
 use mathlib.Core.Path.{_∙_}
 use denote.Ref.{now}
-use Rattle.calls.proofs.Laws.{taken-room}
-use Rattle.bin_calls.proofs.Calls.{taken-by, fail-taken, fail-refused}
+use Rattle.calls.proofs.Laws.{taken-room, taken-by}
+use Rattle.bin_calls.proofs.Calls.{fail-taken, fail-refused}
 use borrow.Author.Needs.{needs}
 use Rattle.bin_calls.proofs.fail.Statement.{statement}
 use Rattle.bin_calls.proofs.fail.Tie as tie

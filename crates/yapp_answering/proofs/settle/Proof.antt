@@ -3,8 +3,8 @@ use mathlib.Core.Path.{refl, _∙_}
 use native.Mathlib.Omega.{arith}
 use denote.Ref.{now}
 use Rattle.yapp_core.specs.Core.{settingsBy}
-use Rattle.calls.proofs.Laws.{taken-room}
-use Rattle.yapp_answering.proofs.Calls.{taken-by, settle-taken, settle-refused}
+use Rattle.calls.proofs.Laws.{taken-room, taken-by}
+use Rattle.yapp_answering.proofs.Calls.{settle-taken, settle-refused}
 use borrow.Author.Needs.{needs}
 use Rattle.yapp_answering.proofs.settle.Statement.{statement}
 use Rattle.yapp_answering.proofs.settle.Tie as tie

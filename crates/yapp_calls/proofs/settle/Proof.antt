@@ -1,8 +1,8 @@
 -- `settle` checks the call, and takes the event's step. Assumes nothing.
 use mathlib.Core.Path.{_∙_}
 use denote.Ref.{now}
-use Rattle.calls.proofs.Laws.{taken-room}
-use Rattle.yapp_calls.proofs.Calls.{taken-by, settle-taken, settle-refused}
+use Rattle.calls.proofs.Laws.{taken-room, taken-by}
+use Rattle.yapp_calls.proofs.Calls.{settle-taken, settle-refused}
 use borrow.Author.Needs.{needs}
 use Rattle.yapp_calls.proofs.settle.Statement.{statement}
 use Rattle.yapp_calls.proofs.settle.Tie as tie
