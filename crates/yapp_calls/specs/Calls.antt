@@ -1,4 +1,4 @@
--- What a call of the receiver answers and leaves, the bytes of its record's name in an array beside it.
+-- What a call of the receiver answers and leaves, over its core, its reader and the array with its record's name.
 use Prim.Native.Nat.{ℕ}
 use mathlib.Core.Bool.{Bool}
 use mathlib.Core.List.{List}
@@ -23,19 +23,18 @@ use Rattle.yapp_calls.specs.declared.Event.{Event}
 use Rattle.yapp_calls.specs.declared.Event.the-variants.{Timer, Stop}
 use Rattle.yapp_calls.specs.declared.Answer.{Answer}
 
--- what a call leaves: its answer, and every byte of name, area and reply buffer
+-- what a call leaves: its answer, and every byte of area and reply buffer
 pub record Left : Type 0 where
   pub answer : Answer
-  pub name : List ℕ
   pub area : List ℕ
   pub reply : List ℕ
 
-abbrev pub leftAs : Answer → List ℕ → List ℕ → List ℕ → Left
-leftAs r name area reply = record { answer = r; name = name; area = area; reply = reply }
+abbrev pub leftAs : Answer → List ℕ → List ℕ → Left
+leftAs r area reply = record { answer = r; area = area; reply = reply }
 
 -- a refused call changes nothing
-abbrev pub refusedAs : ReceiverCore → Reader → Status → Answer
-refusedAs c r s = record { reader = r; core = c; status = s; taken = 0; sent = 0; stored = 0 }
+abbrev pub refusedAs : ReceiverCore → Reader → List ℕ → Status → Answer
+refusedAs c r name s = record { reader = r; name = name; core = c; status = s; taken = 0; sent = 0; stored = 0 }
 
 -- the settings stay
 abbrev pub coreAt : ReceiverCore → ReceiverState → Keeping → ReceiverCore
@@ -46,19 +45,19 @@ abbrev pub leftBy : ReceiverCore → Reader → ℕ → ReceiverMove → List �
 leftBy c r taken a name reply = record {
   answer = record {
     reader = checking (a .checked) r;
+    name = appended 0 (nameOf (a .saved)) name;
     core = coreAt c (a .state) (keepingOf (a .saved));
     status = Taken;
     taken = taken;
     sent = length (writes (a .checked) (a .out));
     stored = a .stored;
   };
-  name = appended 0 (nameOf (a .saved)) name;
   area = a .area;
   reply = over 0 (writes (a .checked) (a .out)) reply;
 }
 
 abbrev pub refusedLeft : ReceiverCore → Reader → List ℕ → List ℕ → List ℕ → Status → Left
-refusedLeft c r name area reply s = leftAs (refusedAs c r s) name area reply
+refusedLeft c r name area reply s = leftAs (refusedAs c r name s) area reply
 
 abbrev pub statusOf : ReceiverCore → List ℕ → List ℕ → Status
 statusOf c area reply = checkOf (receiverEnded (c .state)) (length reply) 0 (length area) (c .room)
@@ -94,12 +93,10 @@ abbrev pub replyBy : Step → List ℕ → List ℕ
 replyBy s reply = over 0 (sentBy s) reply
 
 -- a new name stands in the pending bytes
-abbrev pub nameBy : Reader → Step → List ℕ → List ℕ
-nameBy r s name = appended 0 (bytesAt (r .pending) (s .name)) name
-
-abbrev pub answerBy : ReceiverCore → Reader → ℕ → Step → Answer
-answerBy c r taken s = record {
+abbrev pub answerBy : ReceiverCore → Reader → List ℕ → ℕ → Step → Answer
+answerBy c r name taken s = record {
   reader = checking (s .checked) r;
+  name = appended 0 (bytesAt (r .pending) (s .name)) name;
   core = coreAt c (s .state) (s .keeping);
   status = Taken;
   taken = taken;
@@ -108,5 +105,5 @@ answerBy c r taken s = record {
 }
 
 -- what a step leaves
-abbrev pub leaves : ReceiverCore → Reader → ℕ → Step → List ℕ → List ℕ → List ℕ → Left
-leaves c r taken s name area reply = leftAs (answerBy c r taken s) (nameBy r s name) area (replyBy s reply)
+abbrev pub leaves : ReceiverCore → Reader → List ℕ → ℕ → Step → List ℕ → List ℕ → Left
+leaves c r name taken s area reply = leftAs (answerBy c r name taken s) area (replyBy s reply)

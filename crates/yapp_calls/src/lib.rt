@@ -7,9 +7,8 @@ ghost use mathlib.Core.Path.{_≡_};
 ghost use mathlib.Core.List.{List};
 ghost use lib.ListN.{length};
 ghost use Prim.Native.Nat.{ℕ, _≤_};
-ghost use Rattle.reader.specs.Reader.{receive as reads};
 ghost use Rattle.yapp_steps.specs.Receiving.{currentIn, nowBy, reached, reachedBy};
-ghost use Rattle.yapp_calls.specs.Calls.{coreAt, refusedAs, moveBy, answerBy, nameBy, replyBy, leftAs, arrives, receives, settles};
+ghost use Rattle.yapp_calls.specs.Calls.{coreAt, refusedAs, moveBy, answerBy, replyBy, leftAs, receives, settles};
 
 // An event with which no bytes come.
 pub enum Event {
@@ -17,9 +16,11 @@ pub enum Event {
     Stop,
 }
 
-// What a call answers, but for the bytes of the record's name.
+// What a call answers.
 pub struct Answer {
     pub reader: Reader,
+    // The bytes of the record's name, at the front.
+    pub name: [u8; 64],
     pub core: ReceiverCore,
     pub status: Status,
     // How many bytes of the chunk were taken.
@@ -31,11 +32,12 @@ pub struct Answer {
 }
 
 // A refused call changes nothing.
-fn refuse(core: ReceiverCore, reader: Reader, status: Status) -> Answer
-    ensures { λ r. ⌜ r ≡ refusedAs core reader status ⌝ }
+fn refuse(core: ReceiverCore, reader: Reader, name: [u8; 64], status: Status) -> Answer
+    ensures { λ r. ⌜ r ≡ refusedAs core reader name status ⌝ }
 {
     Answer {
         reader,
+        name,
         core,
         status,
         taken: 0,
@@ -63,21 +65,23 @@ fn moved(core: ReceiverCore, step: Step) -> ReceiverCore
 fn finish(
     core: ReceiverCore,
     reader: Reader,
+    name: [u8; 64],
     taken: usize,
     step: Step,
-    name: &mut [u8],
     reply: &mut [u8],
 ) -> Answer
     requires { ⌜ 259 ≤ length (now reply) ⌝ }
-    ensures { λ r. ⌜ (r ≡ answerBy core reader taken step) × (now (name .exit) ≡ nameBy reader step (now (name .entry))) × (now (reply .exit) ≡ replyBy step (now (reply .entry))) ⌝ }
+    ensures { λ r. ⌜ (r ≡ answerBy core reader name taken step) × (now (reply .exit) ≡ replyBy step (now (reply .entry))) ⌝ }
 {
     let out = step.out;
     let place = step.name;
     let pending = reader.pending();
-    buffers::append_bytes(name, 0, fields::bytes_at(&pending, place));
+    let mut own = name;
+    buffers::append_bytes(&mut own, 0, fields::bytes_at(&pending, place));
     let sent = yapp_replies::put(reply, out, step.checked);
     Answer {
         reader: reader.checking(step.checked),
+        name: own,
         core: moved(core, step),
         status: Status::Taken,
         taken,
@@ -86,40 +90,26 @@ fn finish(
     }
 }
 
-// A call that is taken: reads the chunk, decides, and acts.
-fn arrive(
-    core: ReceiverCore,
-    reader: Reader,
-    name: &mut [u8],
-    chunk: &[u8],
-    area: &mut [u8],
-    reply: &mut [u8],
-) -> Answer
-    requires { ⌜ 259 ≤ length (now reply) ⌝ }
-    ensures { λ r. ⌜ arrives core (reader .checked) (reads reader (now (chunk .entry))) (now (name .entry)) (now (area .entry)) (now (reply .entry)) ≡ leftAs r (now (name .exit)) (now (area .exit)) (now (reply .exit)) ⌝ }
-{
-    let received = reader.receive(chunk);
-    let step = yapp_receiving::take(core, reader.checked(), name, received, area);
-    let found = received.reader;
-    finish(core, found, received.taken, step, name, reply)
-}
-
 // Bytes have arrived.
 pub fn receive(
     core: ReceiverCore,
     reader: Reader,
-    name: &mut [u8],
+    name: [u8; 64],
     chunk: &[u8],
     area: &mut [u8],
     reply: &mut [u8],
 ) -> Answer
-    ensures { λ r. ⌜ receives core reader (now (name .entry)) (now (chunk .entry)) (now (area .entry)) (now (reply .entry)) ≡ leftAs r (now (name .exit)) (now (area .exit)) (now (reply .exit)) ⌝ }
+    ensures { λ r. ⌜ receives core reader name (now (chunk .entry)) (now (area .entry)) (now (reply .entry)) ≡ leftAs r (now (area .exit)) (now (reply .exit)) ⌝ }
 {
     let status = yapp_checks::check(core, area.len(), reply.len());
     if calls::is_taken(status) {
-        return arrive(core, reader, name, chunk, area, reply);
+        let received = reader.receive(chunk);
+        // An array that is lent would be copied for each call that it is handed to by value.
+        let lent = name;
+        let step = yapp_receiving::take(core, reader.checked(), &lent, received, area);
+        return finish(core, received.reader, name, received.taken, step, reply);
     }
-    refuse(core, reader, status)
+    refuse(core, reader, name, status)
 }
 
 // The step of timer or operator's stop.
@@ -137,16 +127,17 @@ pub fn settle(
     event: Event,
     core: ReceiverCore,
     reader: Reader,
-    name: &mut [u8],
+    name: [u8; 64],
     area: &[u8],
     reply: &mut [u8],
 ) -> Answer
-    ensures { λ r. ⌜ settles event core reader (now (name .entry)) (now (area .entry)) (now (reply .entry)) ≡ leftAs r (now (name .exit)) (now (area .entry)) (now (reply .exit)) ⌝ }
+    ensures { λ r. ⌜ settles event core reader name (now (area .entry)) (now (reply .entry)) ≡ leftAs r (now (area .entry)) (now (reply .exit)) ⌝ }
 {
     let status = yapp_checks::check(core, area.len(), reply.len());
     if calls::is_taken(status) {
-        let step = step_of(event, core, reader.checked(), name);
-        return finish(core, reader, 0, step, name, reply);
+        let lent = name;
+        let step = step_of(event, core, reader.checked(), &lent);
+        return finish(core, reader, name, 0, step, reply);
     }
-    refuse(core, reader, status)
+    refuse(core, reader, name, status)
 }

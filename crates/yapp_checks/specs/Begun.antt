@@ -1,9 +1,11 @@
--- How a receiver begins, its record's name by its place in the record's bytes. (Document 01, "The saved record".)
+-- How a receiver begins, its record's name at the front of an array. (Document 01, "The saved record".)
 use Prim.Native.Nat.{ℕ}
+use mathlib.Core.Bool.{Bool}
 use mathlib.Core.List.{List}
-use lib.ListN.{length}
+use lib.ListN.{length, replicate}
 use Rattle.fields.specs.Pick.{pick}
 use Rattle.fields.specs.Lists.{bytesAt}
+use Rattle.fields.specs.Buffer.{appended}
 use Rattle.records.specs.declared.Record.{Record}
 use Rattle.records.specs.declared.RecordRead.{RecordRead}
 use Rattle.records.specs.declared.RecordRead.the-variants.{Good, Unreadable}
@@ -14,21 +16,30 @@ use Rattle.calls.specs.Saving.{isWithin}
 use Rattle.yapp.specs.declared.ReceiverState.the-variants.{R, Ended}
 use Rattle.yapp_checks.specs.declared.Begun.{Begun}
 
-abbrev pub begunEnded : Outcome → Begun
-begunEnded o = record { state = Ended o; keeping = Nothing; name = record { start = 0; len = 0 } }
+-- with no record
+abbrev pub begunEnded : Outcome → ℕ → Bool → Bool → Begun
+begunEnded o room resumes checks = record {
+  name = replicate 64 0;
+  core = record { state = Ended o; room = room; resumes = resumes; checks = checks; keeping = Nothing };
+}
 
 -- kept over size, or size over area (2)
-unfoldable pub begunWith : List ℕ → ℕ → Record → Begun
-begunWith b room r =
+unfoldable pub begunWith : List ℕ → ℕ → Bool → Bool → Record → Begun
+begunWith b room resumes checks r =
     pick (isWithin (r .kept) (r .size) room)
     (record {
-      state = R;
-      keeping = Of (record { named = length (bytesAt b (r .name)); size = r .size; kept = r .kept; stamp = r .stamp });
-      name = r .name;
+      name = appended 0 (bytesAt b (r .name)) (replicate 64 0);
+      core = record {
+        state = R;
+        room = room;
+        resumes = resumes;
+        checks = checks;
+        keeping = Of (record { named = length (bytesAt b (r .name)); size = r .size; kept = r .kept; stamp = r .stamp });
+      };
     })
-    (begunEnded RecordOver)
+    (begunEnded RecordOver room resumes checks)
 
 -- a record that is unreadable is 1
-abbrev pub begunBy : List ℕ → ℕ → RecordRead → Begun
-begunBy b room (Good r) = begunWith b room r
-begunBy b room Unreadable = begunEnded RecordUnreadable
+abbrev pub begunBy : List ℕ → ℕ → Bool → Bool → RecordRead → Begun
+begunBy b room resumes checks (Good r) = begunWith b room resumes checks r
+begunBy b room resumes checks Unreadable = begunEnded RecordUnreadable room resumes checks

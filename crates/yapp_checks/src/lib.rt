@@ -3,7 +3,6 @@ use calls::Entry;
 use calls::Keeping;
 use calls::Outcome;
 use calls::Status;
-use fields::Place;
 use records::Record;
 use records::RecordRead;
 use yapp::ReceiverState;
@@ -16,55 +15,65 @@ ghost use Rattle.yapp_checks.specs.Begun.{begunEnded, begunWith, begunBy
 
 // How a receiver begins.
 pub struct Begun {
-    pub state: ReceiverState,
-    pub keeping: Keeping,
-    // Where the record's name stands in the record's bytes; of no bytes where there is no record.
-    pub name: Place,
+    // The record's name at its front.
+    pub name: [u8; 64],
+    pub core: ReceiverCore,
 }
 
 // A beginning that is refused: an end that has ended, with no record.
-fn begin_ended(outcome: Outcome) -> Begun
-    ensures { λ b. ⌜ b ≡ begunEnded outcome ⌝ }
+fn begin_ended(outcome: Outcome, room: usize, resumes: bool, checks: bool) -> Begun
+    ensures { λ b. ⌜ b ≡ begunEnded outcome room resumes checks ⌝ }
 {
-    let name = Place { start: 0, len: 0 };
     Begun {
-        state: ReceiverState::Ended { outcome },
-        keeping: Keeping::Nothing,
-        name,
+        name: [0; 64],
+        core: ReceiverCore {
+            state: ReceiverState::Ended { outcome },
+            room,
+            resumes,
+            checks,
+            keeping: Keeping::Nothing,
+        },
     }
 }
 
 // From a record; kept over size, or size over area, is 2.
-fn begin_saved(r: Record, bytes: &[u8], room: usize) -> Begun
-    ensures { λ b. ⌜ b ≡ begunWith (now (bytes .entry)) room r ⌝ }
+fn begin_saved(r: Record, bytes: &[u8], room: usize, resumes: bool, checks: bool) -> Begun
+    ensures { λ b. ⌜ b ≡ begunWith (now (bytes .entry)) room resumes checks r ⌝ }
 {
-    let place = r.name;
-    let stamp = r.stamp;
     if keeping::is_within(r.kept, r.size, room) {
-        let name = fields::bytes_at(bytes, place);
+        let place = r.name;
+        let stamp = r.stamp;
+        let named = fields::bytes_at(bytes, place);
+        let mut name = [0; 64];
+        buffers::append_bytes(&mut name, 0, named);
         let entry = Entry {
-            named: name.len(),
+            named: named.len(),
             size: r.size,
             kept: r.kept,
             stamp,
         };
         return Begun {
-            state: ReceiverState::R,
-            keeping: Keeping::Of(entry),
-            name: place,
+            name,
+            core: ReceiverCore {
+                state: ReceiverState::R,
+                room,
+                resumes,
+                checks,
+                keeping: Keeping::Of(entry),
+            },
         };
     }
-    begin_ended(Outcome::RecordOver)
+    begin_ended(Outcome::RecordOver, room, resumes, checks)
 }
 
 // From a record's bytes; one that is unreadable is 1.
-pub fn begin(bytes: &[u8], room: usize) -> Begun
-    ensures { λ b. ⌜ b ≡ begunBy (now (bytes .entry)) room (recordOf (now (bytes .entry))) ⌝ }
+pub fn begin(bytes: &[u8], room: usize, resumes: bool, checks: bool) -> Begun
+    ensures { λ b. ⌜ b ≡ begunBy (now (bytes .entry)) room resumes checks (recordOf (now (bytes .entry))) ⌝ }
 {
     let RecordRead::Good(r) = record_reader::record_of(bytes) else {
-        return begin_ended(Outcome::RecordUnreadable);
+        return begin_ended(Outcome::RecordUnreadable, room, resumes, checks);
     };
-    begin_saved(r, bytes, room)
+    begin_saved(r, bytes, room, resumes, checks)
 }
 
 fn is_ended(state: ReceiverState) -> bool

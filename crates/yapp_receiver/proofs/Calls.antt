@@ -1,30 +1,29 @@
 -- What the receiver's calls and beginnings are by what was decided below. Assumes nothing.
 use mathlib.Core.Path.{_≡_, refl, sym}
 use mathlib.Core.Bool.{Bool, true, false}
-use mathlib.Core.List.{List}
+use mathlib.Core.List.{List, []}
 use Prim.Native.Nat.{ℕ}
+use lib.ListN.{replicate}
 use Rattle.fields.specs.Pick.{pick}
-use Rattle.fields.specs.Lists.{bytesAt}
+use Rattle.fields.specs.Buffer.{over, appended}
 use Rattle.packets.specs.Content.{contentOf}
 use Rattle.reader.specs.declared.Reader.{Reader}
 use Rattle.reader.specs.Reader.{receive as reads}
-use Rattle.records.specs.declared.Record.{Record}
 use Rattle.records.specs.declared.RecordRead.{RecordRead}
 use Rattle.records.specs.declared.RecordRead.the-variants.{Good, Unreadable}
 use Rattle.records.specs.Record.{recordOf}
-use Rattle.records.specs.Saved.{savedOf}
 use Rattle.calls.specs.declared.Status.{Status}
 use Rattle.calls.specs.Checks.{unless}
 use Rattle.calls.specs.Saving.{isWithin}
 use Rattle.calls.proofs.Laws.{unless-ap}
-use Rattle.yapp.specs.Steps.{ReceiverMove, receiverTakes}
+use Rattle.yapp.specs.Steps.{ReceiverMove, receiverTakes, receiverTimes, receiverStops}
 use Rattle.yapp_checks.specs.declared.Begun.{Begun}
 use Rattle.yapp_checks.specs.Begun.{begunWith, begunBy}
-use Rattle.yapp_calls.specs.declared.Event.{Event}
-use Rattle.yapp_calls.specs.Calls.{leftBy, refusedLeft, moveBy, receives, settles}
+use Rattle.yapp_calls.specs.declared.Event.the-variants.{Timer, Stop}
+use Rattle.yapp_calls.specs.Calls.{leftBy, refusedLeft, receives, settles}
 use Rattle.yapp_receiver.specs.declared.Receiver.{Receiver}
-use Rattle.yapp_receiver.specs.Receiver.{unlessRefused, statusOf, replied, settingsOf, nowOf, withSaved, resumeBy, resume, receive}
-use Rattle.yapp_receiver.specs.Answers.{begunAs, afterBy, settlesOf}
+use Rattle.yapp_receiver.specs.Receiver.{unlessRefused, statusOf, replied, settingsOf, nowOf, withSaved, resumeBy, resume, receive, timeout, cancel}
+use Rattle.yapp_receiver.specs.Answers.{begunAs, afterBy}
 
 module _ (m : Receiver) (area reply : List ℕ) where
   answered-is : (r : Reader) (taken : ℕ) (a : ReceiverMove) (s : Status)
@@ -40,30 +39,30 @@ module _ (m : Receiver) (area reply : List ℕ) where
       let g = reads (m .reader) chunk in
       answered-is (g .reader) (g .taken) (receiverTakes (settingsOf m) (nowOf m) area (contentOf (g .reader .pending) (g .packet))) (statusOf m area reply)
 
-  pub settle-is : (e : Event) → settlesOf e m area reply ≡ afterBy (settles e (m .core) (m .reader) (m .name) area reply)
-  unfolding settlesOf settles
-  settle-is e = answered-is (m .reader) 0 (moveBy e (nowOf m) area (m .core .state)) (statusOf m area reply)
+  pub timeout-is : timeout m area reply ≡ afterBy (settles Timer (m .core) (m .reader) (m .name) area reply)
+  unfolding timeout settles
+  timeout-is = answered-is (m .reader) 0 (receiverTimes (nowOf m) area (m .core .state)) (statusOf m area reply)
 
--- a receiver that begins, from the bytes b of a record
-abbrev pub begunIn : List ℕ → ℕ → Bool → Bool → Begun → Receiver
-begunIn b room resumes checks x = begunAs (x .state) room resumes checks (x .keeping) (bytesAt b (x .name))
+  pub cancel-is : cancel m area reply ≡ afterBy (settles Stop (m .core) (m .reader) (m .name) area reply)
+  unfolding cancel settles
+  cancel-is = answered-is (m .reader) 0 (receiverStops (nowOf m) area (m .core .state)) (statusOf m area reply)
 
-picked : (b : List ℕ) (room : ℕ) (resumes checks : Bool) (t : Bool) (x y : Begun)
-    → pick t (begunIn b room resumes checks x) (begunIn b room resumes checks y) ≡ begunIn b room resumes checks (pick t x y)
-picked b room resumes checks true x y = refl
-picked b room resumes checks false x y = refl
+-- ---- the beginnings
 
-saved-is : (b : List ℕ) (room : ℕ) (resumes checks : Bool) (r : Record)
-    → withSaved room resumes checks (savedOf b r) ≡ begunIn b room resumes checks (begunWith b room r)
-unfolding withSaved begunWith
-saved-is b room resumes checks r = picked b room resumes checks (isWithin (r .kept) (r .size) room) _ _
+pub no-name : appended 0 [] (replicate 64 0) ≡ replicate 64 0
+unfolding appended over
+no-name = refl
 
-by-is : (b : List ℕ) (room : ℕ) (resumes checks : Bool) (x : RecordRead)
-    → resumeBy room resumes checks b x ≡ begunIn b room resumes checks (begunBy b room x)
-by-is b room resumes checks (Good r) = saved-is b room resumes checks r
-by-is b room resumes checks Unreadable = refl
+picked : (t : Bool) (x y : Begun) → pick t (begunAs x) (begunAs y) ≡ begunAs (pick t x y)
+picked true x y = refl
+picked false x y = refl
 
-pub resume-is : (b : List ℕ) (room : ℕ) (resumes checks : Bool)
-    → resume b room resumes checks ≡ begunIn b room resumes checks (begunBy b room (recordOf b))
-unfolding resume
-resume-is b room resumes checks = by-is b room resumes checks (recordOf b)
+module _ (b : List ℕ) (room : ℕ) (resumes checks : Bool) where
+  by-is : (x : RecordRead) → resumeBy room resumes checks b x ≡ begunAs (begunBy b room resumes checks x)
+  unfolding withSaved begunWith
+  by-is (Good r) = rw no-name (picked (isWithin (r .kept) (r .size) room) _ _)
+  by-is Unreadable = rw no-name
+
+  pub resume-is : resume b room resumes checks ≡ begunAs (begunBy b room resumes checks (recordOf b))
+  unfolding resume
+  resume-is = by-is (recordOf b)

@@ -10,7 +10,7 @@ use yapp_steps::ReceiverCore;
 ghost use mathlib.Core.Path.{_≡_};
 ghost use Rattle.calls.specs.Recording.{recordAnswer, recordLeft};
 ghost use Rattle.yapp_receiver.specs.Receiver.{fresh as freshOf, resume as resumeOf, transmit as transmitOf, receive as receiveOf, timeout as timeoutOf, cancel as cancelOf, recordBy};
-ghost use Rattle.yapp_receiver.specs.Answers.{begunAs, answeredBy, settlesOf};
+ghost use Rattle.yapp_receiver.specs.Answers.{answeredBy};
 
 pub struct Receiver {
     reader: Reader,
@@ -29,38 +29,12 @@ pub struct ReceiverAnswer {
     pub stored: usize,
 }
 
-// A receiver in a state, with a record or none.
-fn begin(
-    state: ReceiverState,
-    room: usize,
-    resumes: bool,
-    checks: bool,
-    keeping: Keeping,
-    name: &[u8],
-) -> Receiver
-    ensures { λ r. ⌜ r ≡ begunAs state room resumes checks keeping (now (name .entry)) ⌝ }
-{
-    let mut own = [0; 64];
-    buffers::append_bytes(&mut own, 0, name);
-    let reader = Reader::new(false);
-    Receiver {
-        reader,
-        name: own,
-        core: ReceiverCore {
-            state,
-            room,
-            resumes,
-            checks,
-            keeping,
-        },
-    }
-}
-
 // The receiver after a call, and what the call answers.
-fn answered(name: [u8; 64], answer: Answer) -> ReceiverAnswer
-    ensures { λ r. ⌜ r ≡ answeredBy name answer ⌝ }
+fn answered(answer: Answer) -> ReceiverAnswer
+    ensures { λ r. ⌜ r ≡ answeredBy answer ⌝ }
 {
     let reader = answer.reader;
+    let name = answer.name;
     let core = answer.core;
     let status = answer.status;
     ReceiverAnswer {
@@ -70,21 +44,6 @@ fn answered(name: [u8; 64], answer: Answer) -> ReceiverAnswer
         sent: answer.sent,
         stored: answer.stored,
     }
-}
-
-fn kept(core: ReceiverCore) -> Keeping
-    ensures { λ r. ⌜ r ≡ core .keeping ⌝ }
-{
-    core.keeping
-}
-
-// Timer or operator's stop.
-fn settle(m: Receiver, event: Event, area: &[u8], reply: &mut [u8]) -> ReceiverAnswer
-    ensures { λ r. ⌜ settlesOf event m (now (area .entry)) (now (reply .entry)) ≡ record { answer = r; area = now (area .entry); reply = now (reply .exit) } ⌝ }
-{
-    let mut name = m.name;
-    let answer = yapp_calls::settle(event, m.core, m.reader, &mut name, area, reply);
-    answered(name, answer)
 }
 
 impl Receiver {
@@ -97,25 +56,31 @@ impl Receiver {
     pub fn fresh(room: usize, resumes: bool, checks: bool) -> Self
         ensures { λ r. ⌜ r ≡ freshOf room resumes checks ⌝ }
     {
-        begin(
-            ReceiverState::R,
-            room,
-            resumes,
-            checks,
-            Keeping::Nothing,
-            b"",
-        )
+        Receiver {
+            reader: Reader::new(false),
+            name: [0; 64],
+            core: ReceiverCore {
+                state: ReceiverState::R,
+                room,
+                resumes,
+                checks,
+                keeping: Keeping::Nothing,
+            },
+        }
     }
 
     // A receiver with the record that these bytes are; one that is unreadable is 1.
     pub fn resume(bytes: &[u8], room: usize, resumes: bool, checks: bool) -> Self
         ensures { λ r. ⌜ r ≡ resumeOf (now (bytes .entry)) room resumes checks ⌝ }
     {
-        let begun = yapp_checks::begin(bytes, room);
-        let state = begun.state;
-        let keeping = begun.keeping;
-        let name = fields::bytes_at(bytes, begun.name);
-        begin(state, room, resumes, checks, keeping, name)
+        let begun = yapp_checks::begin(bytes, room, resumes, checks);
+        let name = begun.name;
+        let core = begun.core;
+        Receiver {
+            reader: Reader::new(false),
+            name,
+            core,
+        }
     }
 
     // A chance to send; a receiver has nothing to send.
@@ -136,30 +101,32 @@ impl Receiver {
     pub fn receive(self, chunk: &[u8], area: &mut [u8], reply: &mut [u8]) -> ReceiverAnswer
         ensures { λ r. ⌜ receiveOf self (now (chunk .entry)) (now (area .entry)) (now (reply .entry)) ≡ record { answer = r; area = now (area .exit); reply = now (reply .exit) } ⌝ }
     {
-        let mut name = self.name;
-        let answer = yapp_calls::receive(self.core, self.reader, &mut name, chunk, area, reply);
-        answered(name, answer)
+        let name = self.name;
+        answered(yapp_calls::receive(self.core, self.reader, name, chunk, area, reply))
     }
 
     // The timer has run out.
     pub fn timeout(self, area: &[u8], reply: &mut [u8]) -> ReceiverAnswer
         ensures { λ r. ⌜ timeoutOf self (now (area .entry)) (now (reply .entry)) ≡ record { answer = r; area = now (area .entry); reply = now (reply .exit) } ⌝ }
     {
-        settle(self, Event::Timer, area, reply)
+        let name = self.name;
+        answered(yapp_calls::settle(Event::Timer, self.core, self.reader, name, area, reply))
     }
 
     // The operator's stop.
     pub fn cancel(self, area: &[u8], reply: &mut [u8]) -> ReceiverAnswer
         ensures { λ r. ⌜ cancelOf self (now (area .entry)) (now (reply .entry)) ≡ record { answer = r; area = now (area .entry); reply = now (reply .exit) } ⌝ }
     {
-        settle(self, Event::Stop, area, reply)
+        let name = self.name;
+        answered(yapp_calls::settle(Event::Stop, self.core, self.reader, name, area, reply))
     }
 
     // Writes the record's bytes, where there is a record.
     pub fn record(self, buf: &mut [u8]) -> RecordAnswer
         ensures { λ r. ⌜ (r ≡ recordAnswer (recordBy self) (now (buf .entry))) × (now (buf .exit) ≡ recordLeft (recordBy self) (now (buf .entry))) ⌝ }
     {
-        let keeping = kept(self.core);
+        let core = self.core;
+        let keeping = core.keeping;
         let name = self.name;
         keeping::write_record(keeping, &name, buf)
     }

@@ -5,17 +5,12 @@ use Rattle.yapp_replies.proofs.Sending.{put-is}
 use borrow.Author.Needs.{needs}
 use Rattle.yapp_calls.proofs.finish.Statement.{statement}
 use Rattle.yapp_calls.proofs.finish.Tie as tie
-use Rattle.yapp_calls.proofs.finish.Reads as reads
-use Rattle.yapp_calls.proofs.finish.Lts as lts
-use Rattle.buffers.proofs.append_bytes.Reads as append-bytes-reads
-use Rattle.fields.proofs.bytes_at.Reads as bytes-at-reads
-use Rattle.reader.proofs.Reader.checking.Reads as checking-reads
-use Rattle.reader.proofs.Reader.pending.Reads as pending-reads
-use Rattle.yapp_calls.proofs.moved.Reads as moved-reads
-use Rattle.yapp_replies.proofs.put.Reads as put-reads
 
 pending-requires : tie.Need-pending-requires
 pending-requires c κs = search needs
+
+slice-aggregate-append-bytes : tie.Need-slice-aggregate-append-bytes
+slice-aggregate-append-bytes c = search needs
 
 slice-aggregate-bytes-at : tie.Need-slice-aggregate-bytes-at
 slice-aggregate-bytes-at c = search needs
@@ -38,20 +33,18 @@ moved-requires c κs = search needs
 same-length : tie.Need-same-length
 same-length c = search needs
 
-same-length-2 : tie.Need-same-length-2
-same-length-2 c = search needs
-
 returns : tie.Need-returns
 returns c =
-    let g = c .before .before .before .before .before .before .before .before .before .before .before .before .before .before .before .before .args in
-    let s = put-is (g .step .checked) (g .step .out) (now (g .reply)) _ _ (c .before .before .before .before .before .before .before .before .before .before .before .before .before .before .before .before .pre) (c .before .before .before .before .put .ensures) in
-    rw (c .moved .ensures, c .before .checking .ensures, c .before .before .before .before .before .before .before .before .append-bytes .ensures .1, c .before .before .before .before .before .before .before .before .before .bytes-at .ensures, c .before .before .before .before .before .before .before .before .before .before .before .before .pending .ensures, s .0, s .1) (refl, refl, refl)
+    let g = c .before .before .before .before .before .before .before .before .before .before .before .before .before .before .args in
+    let s = put-is (g .step .checked) (g .step .out) (now (g .reply)) _ _ (c .before .before .before .before .before .before .before .before .before .before .before .before .before .before .pre) (c .before .before .before .before .put .ensures) in
+    rw (c .moved .ensures, c .before .checking .ensures, c .before .before .before .before .before .before .before .append-bytes .ensures .1, c .before .before .before .before .before .before .before .before .bytes-at .ensures, c .before .before .before .before .before .before .before .before .before .before .before .pending .ensures, s .0, s .1) (refl, refl)
 
 pub finish-spec : {M : Type 1} → statement M
 finish-spec =
     tie.close
     (tie.spec
     pending-requires
+    slice-aggregate-append-bytes
     slice-aggregate-bytes-at
     bytes-at-requires
     append-bytes-requires
@@ -59,5 +52,4 @@ finish-spec =
     checking-requires
     moved-requires
     same-length
-    same-length-2
     returns)

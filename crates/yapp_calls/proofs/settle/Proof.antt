@@ -6,14 +6,6 @@ use Rattle.yapp_calls.proofs.Calls.{settle-taken, settle-refused}
 use borrow.Author.Needs.{needs}
 use Rattle.yapp_calls.proofs.settle.Statement.{statement}
 use Rattle.yapp_calls.proofs.settle.Tie as tie
-use Rattle.yapp_calls.proofs.settle.Reads as reads
-use Rattle.yapp_calls.proofs.settle.Lts as lts
-use Rattle.calls.proofs.is_taken.Reads as is-taken-reads
-use Rattle.reader.proofs.Reader.checked.Reads as checked-reads
-use Rattle.yapp_calls.proofs.finish.Reads as finish-reads
-use Rattle.yapp_calls.proofs.refuse.Reads as refuse-reads
-use Rattle.yapp_calls.proofs.step_of.Reads as step-of-reads
-use Rattle.yapp_checks.proofs.check.Reads as check-reads
 
 check-requires : tie.Need-check-requires
 check-requires c κs = search needs
@@ -24,32 +16,32 @@ is-taken-requires c κs = search needs
 checked-requires : tie.Need-checked-requires
 checked-requires c κs = search needs
 
+slice-aggregate-step-of : tie.Need-slice-aggregate-step-of
+slice-aggregate-step-of c = search needs
+
 step-of-requires : tie.Need-step-of-requires
 step-of-requires c κs = search needs
 
 finish-requires : tie.Need-finish-requires
 finish-requires c κs =
-    taken-room _ _ _ _ _ (taken-by (c .before .before .before .before .before .before .before .check .ensures) (c .before .before .before .before .before .before .is-taken .ensures) (c .before .before .before .before .before .if1 .taken)) .0
+    taken-room _ _ _ _ _ (taken-by (c .before .before .before .before .before .before .check .ensures) (c .before .before .before .before .before .is-taken .ensures) (c .before .before .before .before .if1 .taken)) .0
 
 same-length : tie.Need-same-length
 same-length c = search needs
 
-same-length-2 : tie.Need-same-length-2
-same-length-2 c = search needs
-
 returns : tie.Need-returns
 returns c =
-    let g = c .before .before .before .before .before .before .before .before .before .before .before .before .before .before .before .before .args in
-    settle-taken (g .core) (g .reader) (now (g .name)) (now (g .area)) (now (g .reply)) (g .event) (c .before .before .before .before .before .before .before .before .before .checked .result) (c .before .before .before .before .before .before .before .step-of .result) (taken-by (c .before .before .before .before .before .before .before .before .before .before .before .before .check .ensures) (c .before .before .before .before .before .before .before .before .before .before .before .is-taken .ensures) (c .before .before .before .before .before .before .before .before .before .before .if1 .taken)) (c .before .before .before .before .before .before .before .before .before .checked .ensures) (c .before .before .before .before .before .before .before .step-of .ensures)
-    ∙ rw (c .before .before .before .before .finish .ensures .0, c .before .before .before .before .finish .ensures .1, c .before .before .before .before .finish .ensures .2)
+    let g = c .before .before .before .before .before .before .before .before .before .before .before .before .args in
+    settle-taken (g .core) (g .reader) (g .name) (now (g .area)) (now (g .reply)) (g .event) (c .before .before .before .before .before .before .checked .result) (c .before .before .before .before .step-of .result) (taken-by (c .before .before .before .before .before .before .before .before .before .check .ensures) (c .before .before .before .before .before .before .before .before .is-taken .ensures) (c .before .before .before .before .before .before .before .if1 .taken)) (c .before .before .before .before .before .before .checked .ensures) (c .before .before .before .before .step-of .ensures)
+    ∙ rw (c .before .before .finish .ensures .0, c .before .before .finish .ensures .1)
 
 refuse-requires : tie.Need-refuse-requires
 refuse-requires c κs = search needs
 
 returns-2 : tie.Need-returns-2
 returns-2 c =
-    let g = c .before .before .before .before .before .before .before .args in
-    settle-refused (g .core) (g .reader) (now (g .name)) (now (g .area)) (now (g .reply)) (g .event) (taken-by (c .before .before .before .check .ensures) (c .before .before .is-taken .ensures) (c .before .if1 .left))
+    let g = c .before .before .before .before .before .before .args in
+    settle-refused (g .core) (g .reader) (g .name) (now (g .area)) (now (g .reply)) (g .event) (taken-by (c .before .before .before .check .ensures) (c .before .before .is-taken .ensures) (c .before .if1 .left))
     ∙ rw (c .refuse .ensures, c .before .before .before .check .ensures)
 
 pub settle-spec : {M : Type 1} → statement M
@@ -59,10 +51,10 @@ settle-spec =
     check-requires
     is-taken-requires
     checked-requires
+    slice-aggregate-step-of
     step-of-requires
     finish-requires
     same-length
-    same-length-2
     returns
     refuse-requires
     returns-2)

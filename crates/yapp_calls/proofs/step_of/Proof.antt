@@ -2,10 +2,6 @@
 use borrow.Author.Needs.{needs}
 use Rattle.yapp_calls.proofs.step_of.Statement.{statement}
 use Rattle.yapp_calls.proofs.step_of.Tie as tie
-use Rattle.yapp_calls.proofs.step_of.Reads as reads
-use Rattle.yapp_calls.proofs.step_of.Lts as lts
-use Rattle.yapp_receiving.proofs.stop.Reads as stop-reads
-use Rattle.yapp_receiving.proofs.time_out.Reads as time-out-reads
 
 enum-told : tie.Need-enum-told
 enum-told c = search needs

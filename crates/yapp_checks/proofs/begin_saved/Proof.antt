@@ -11,9 +11,15 @@ is-within-requires c κs = search needs
 bytes-at-requires : tie.Need-bytes-at-requires
 bytes-at-requires c κs = search needs
 
+slice-aggregate-append-bytes : tie.Need-slice-aggregate-append-bytes
+slice-aggregate-append-bytes c = search needs
+
+append-bytes-requires : tie.Need-append-bytes-requires
+append-bytes-requires c κs = search needs
+
 returns : tie.Need-returns
 unfolding begunWith
-returns c = rw (c .bytes-at .ensures, sym (c .before .before .is-within .ensures) ∙ c .before .if1 .taken)
+returns c = rw (c .before .append-bytes .ensures .1, c .before .before .before .bytes-at .ensures, sym (c .before .before .before .before .before .before .is-within .ensures) ∙ c .before .before .before .before .before .if1 .taken)
 
 begin-ended-requires : tie.Need-begin-ended-requires
 begin-ended-requires c κs = search needs
@@ -25,4 +31,11 @@ returns-2 c = rw (c .begin-ended .ensures, sym (c .before .before .is-within .en
 pub begin-saved-spec : {M : Type 1} → statement M
 begin-saved-spec =
     tie.close
-    (tie.spec is-within-requires bytes-at-requires returns begin-ended-requires returns-2)
+    (tie.spec
+    is-within-requires
+    bytes-at-requires
+    slice-aggregate-append-bytes
+    append-bytes-requires
+    returns
+    begin-ended-requires
+    returns-2)

@@ -7,9 +7,6 @@ use borrow.Author.Needs.{needs}
 use Rattle.yapp_receiver.proofs.Receiver.receive.Statement.{statement}
 use Rattle.yapp_receiver.proofs.Receiver.receive.Tie as tie
 
-slice-aggregate-receive : tie.Need-slice-aggregate-receive
-slice-aggregate-receive c = search needs
-
 receive-requires : tie.Need-receive-requires
 receive-requires c κs = search needs
 
@@ -24,16 +21,9 @@ same-length-2 c = search needs
 
 returns : tie.Need-returns
 returns c =
-    let a = c .before .before .before .before .before .before .before .before .before .before .before .before .before .before .args in
-    receive-is (a .self) (now (a .area)) (now (a .reply)) (now (a .chunk)) ∙ ap afterBy (c .before .before .before .before .before .before .receive .ensures) ∙ rw (c .answered .ensures)
+    let a = c .before .before .before .before .before .before .before .before .before .before .before .before .args in
+    receive-is (a .self) (now (a .area)) (now (a .reply)) (now (a .chunk)) ∙ ap afterBy (c .before .before .before .before .before .receive .ensures) ∙ rw (c .answered .ensures)
 
 pub receive-spec : {M : Type 1} → statement M
 receive-spec =
-    tie.close
-    (tie.spec
-    slice-aggregate-receive
-    receive-requires
-    answered-requires
-    same-length
-    same-length-2
-    returns)
+    tie.close (tie.spec receive-requires answered-requires same-length same-length-2 returns)

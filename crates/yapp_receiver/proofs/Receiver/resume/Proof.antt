@@ -1,5 +1,5 @@
 -- `resume` is the beginning that the record's bytes give. Assumes nothing.
-use mathlib.Core.Path.{sym, _∙_}
+use mathlib.Core.Path.{sym}
 use denote.Ref.{now}
 use Rattle.yapp_receiver.proofs.Calls.{resume-is}
 use borrow.Author.Needs.{needs}
@@ -9,16 +9,13 @@ use Rattle.yapp_receiver.proofs.Receiver.resume.Tie as tie
 begin-requires : tie.Need-begin-requires
 begin-requires c κs = search needs
 
-bytes-at-requires : tie.Need-bytes-at-requires
-bytes-at-requires c κs = search needs
-
-begin-requires-2 : tie.Need-begin-requires-2
-begin-requires-2 c κs = search needs
+new-requires : tie.Need-new-requires
+new-requires c κs = search needs
 
 returns : tie.Need-returns
 returns c =
-    let a = c .before .before .before .before .args in
-    rw (c .begin2 .ensures, c .before .bytes-at .ensures, c .before .before .begin .ensures) (sym (resume-is (now (a .bytes)) (a .room) (a .resumes) (a .checks)))
+    let a = c .before .before .before .before .before .args in
+    rw (c .new .ensures, c .before .before .before .begin .ensures) (sym (resume-is (now (a .bytes)) (a .room) (a .resumes) (a .checks)))
 
 pub resume-spec : {M : Type 1} → statement M
-resume-spec = tie.close (tie.spec begin-requires bytes-at-requires begin-requires-2 returns)
+resume-spec = tie.close (tie.spec begin-requires new-requires returns)
