@@ -5,47 +5,68 @@ use mathlib.Core.List.{List, []}
 use mathlib.Core.Option.{Option}
 use Prim.Native.Nat.{ℕ}
 use lib.ListN.{length}
+use Rattle.fields.specs.declared.Place.{Place}
 use Rattle.records.specs.Saved.{Saved}
 use Rattle.calls.specs.declared.Outcome.{Outcome}
 use Rattle.calls.specs.declared.Keeping.{Keeping}
+use Rattle.calls.specs.declared.Status.{Status}
 use Rattle.calls.specs.Checks.{isTaken}
 use Rattle.calls.specs.Saving.{heldOf, savedBy}
 use Rattle.calls.proofs.Names.{held-saved, held-held}
 use Rattle.calls.proofs.Laws.{unless-taken, unless-refused}
-use Rattle.bin.specs.declared.ReceiverState.{ReceiverState}
-use Rattle.bin.specs.Steps.{ReceiverSettings, receiverTakes, receiverFails}
+use Rattle.bin.specs.Steps.{receiverTakes, receiverFails}
+use Rattle.bin_steps.specs.declared.Step.{Step}
 use Rattle.bin_steps.specs.Steps.{nowhere, doneAs}
 use Rattle.bin_receiving.specs.Deciding.{frameStep, failStep}
+use Rattle.bin_checks.specs.declared.ReceiverCore.{ReceiverCore}
 use Rattle.bin_checks.specs.Shown.{shownIn}
-use Rattle.bin_calls.specs.Calls.{Left, leftAs, leftBy, refusedAs, refusedLeft, statusOf, receives, fails, leaves}
+use Rattle.bin_calls.specs.declared.Answer.{Answer}
+use Rattle.bin_calls.specs.Calls.{leftAs, leftBy, refusedAs, refusedLeft, settingsIn, statusOf, receives, fails, answerBy, replyBy, leaves}
 use Rattle.bin_calls.proofs.Steps.{takes-is, fails-is}
 
-module _ (st : ReceiverState) (k : Keeping) (name area reply : List ℕ) where
-  pub receive-taken : (t : ReceiverSettings) (f : List ℕ) → isTaken (statusOf st (t .room) (length f) area reply) ≡ true
-      → receives t st k name f area reply
-      ≡ leaves name (shownIn st f) f reply (frameStep (t .room) (t .resumes) st (heldOf k name) f name area)
+module _ (c : ReceiverCore) (name area reply : List ℕ) where
+  taken-is : (f : List ℕ) → isTaken (statusOf c (length f) area reply) ≡ true
+      → receives c name f area reply
+      ≡ leaves c name (shownIn (c .state) f) f reply (frameStep (c .room) (c .resumes) (c .state) (heldOf (c .keeping) name) f name area)
   unfolding receives
-  receive-taken t f h =
-      unless-taken (refusedLeft st k name area reply) (leftBy (shownIn st f) (receiverTakes t st (savedBy k name) area f) name reply) (statusOf st (t .room) (length f) area reply) h
-      ∙ ap (λ (v : Option Saved). leftBy (shownIn st f) (receiverTakes t st v area f) name reply) (sym (held-saved k name))
-      ∙ takes-is name (shownIn st f) f reply t st (heldOf k name) area (held-held k name)
+  taken-is f h =
+      unless-taken (refusedLeft c name area reply) (leftBy c name (shownIn (c .state) f) (receiverTakes (settingsIn c) (c .state) (savedBy (c .keeping) name) area f) reply) (statusOf c (length f) area reply) h
+      ∙ ap (λ (v : Option Saved). leftBy c name (shownIn (c .state) f) (receiverTakes (settingsIn c) (c .state) v area f) reply) (sym (held-saved (c .keeping) name))
+      ∙ takes-is c name (shownIn (c .state) f) f reply (settingsIn c) (c .state) (heldOf (c .keeping) name) area (held-held (c .keeping) name)
 
-  pub receive-refused : (t : ReceiverSettings) (f : List ℕ) → isTaken (statusOf st (t .room) (length f) area reply) ≡ false
-      → receives t st k name f area reply ≡ leftAs (refusedAs (statusOf st (t .room) (length f) area reply) st k) name area reply
+  -- by the record that is held, the step, the text to show, and what was answered
+  pub receive-taken : (f : List ℕ) (k : Keeping) (s : Step) (a : List ℕ) (shown : Place) (r : Answer) (e : List ℕ)
+      → isTaken (statusOf c (length f) area reply) ≡ true → k ≡ heldOf (c .keeping) name
+      → frameStep (c .room) (c .resumes) (c .state) k f name area ≡ doneAs s a → shown ≡ shownIn (c .state) f
+      → (r ≡ answerBy c name shown f s) × (e ≡ replyBy f s reply)
+      → receives c name f area reply ≡ leftAs r a e
+  receive-taken f k s a shown r e h held step text did =
+      taken-is f h ∙ rw (← held, step, ← text, ← did .0, ← did .1)
+
+  pub receive-refused : (f : List ℕ) (s : Status) (r : Answer) → isTaken (statusOf c (length f) area reply) ≡ false
+      → s ≡ statusOf c (length f) area reply → r ≡ refusedAs c name s → receives c name f area reply ≡ leftAs r area reply
   unfolding receives
-  receive-refused t f h =
-      unless-refused (refusedLeft st k name area reply) (leftBy (shownIn st f) (receiverTakes t st (savedBy k name) area f) name reply) (statusOf st (t .room) (length f) area reply) h
+  receive-refused f s r h status did =
+      unless-refused (refusedLeft c name area reply) (leftBy c name (shownIn (c .state) f) (receiverTakes (settingsIn c) (c .state) (savedBy (c .keeping) name) area f) reply) (statusOf c (length f) area reply) h
+      ∙ rw (← status, ← did)
 
-  pub fail-taken : (o : Outcome) (room : ℕ) → isTaken (statusOf st room 0 area reply) ≡ true
-      → fails o room st k name area reply ≡ leaves name nowhere [] reply (doneAs (failStep o st (heldOf k name)) area)
+  ends-is : (o : Outcome) → isTaken (statusOf c 0 area reply) ≡ true
+      → fails o c name area reply ≡ leaves c name nowhere [] reply (doneAs (failStep o (c .state) (heldOf (c .keeping) name)) area)
   unfolding fails
-  fail-taken o room h =
-      unless-taken (refusedLeft st k name area reply) (leftBy nowhere (receiverFails o st (savedBy k name) area) name reply) (statusOf st room 0 area reply) h
-      ∙ ap (λ (v : Option Saved). leftBy nowhere (receiverFails o st v area) name reply) (sym (held-saved k name))
-      ∙ fails-is name nowhere [] reply o st (heldOf k name) area (held-held k name)
+  ends-is o h =
+      unless-taken (refusedLeft c name area reply) (leftBy c name nowhere (receiverFails o (c .state) (savedBy (c .keeping) name) area) reply) (statusOf c 0 area reply) h
+      ∙ ap (λ (v : Option Saved). leftBy c name nowhere (receiverFails o (c .state) v area) reply) (sym (held-saved (c .keeping) name))
+      ∙ fails-is c name nowhere [] reply o (c .state) (heldOf (c .keeping) name) area (held-held (c .keeping) name)
 
-  pub fail-refused : (o : Outcome) (room : ℕ) → isTaken (statusOf st room 0 area reply) ≡ false
-      → fails o room st k name area reply ≡ leftAs (refusedAs (statusOf st room 0 area reply) st k) name area reply
+  pub fail-taken : (o : Outcome) (k : Keeping) (s : Step) (r : Answer) (e : List ℕ)
+      → isTaken (statusOf c 0 area reply) ≡ true → k ≡ heldOf (c .keeping) name → s ≡ failStep o (c .state) k
+      → (r ≡ answerBy c name nowhere [] s) × (e ≡ replyBy [] s reply)
+      → fails o c name area reply ≡ leftAs r area e
+  fail-taken o k s r e h held step did = ends-is o h ∙ rw (← held, ← step, ← did .0, ← did .1)
+
+  pub fail-refused : (o : Outcome) (s : Status) (r : Answer) → isTaken (statusOf c 0 area reply) ≡ false
+      → s ≡ statusOf c 0 area reply → r ≡ refusedAs c name s → fails o c name area reply ≡ leftAs r area reply
   unfolding fails
-  fail-refused o room h =
-      unless-refused (refusedLeft st k name area reply) (leftBy nowhere (receiverFails o st (savedBy k name) area) name reply) (statusOf st room 0 area reply) h
+  fail-refused o s r h status did =
+      unless-refused (refusedLeft c name area reply) (leftBy c name nowhere (receiverFails o (c .state) (savedBy (c .keeping) name) area) reply) (statusOf c 0 area reply) h
+      ∙ rw (← status, ← did)

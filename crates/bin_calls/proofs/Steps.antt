@@ -37,6 +37,7 @@ use Rattle.bin_storing.specs.Storing.{entryFrame, extendedFrame, basicFrame, so
 use Rattle.bin_receiving.specs.Deciding.{busyStep, frameStep, failStep}
 use Rattle.bin_steps.proofs.Cases.{no}
 use Rattle.calls.proofs.Names.{keep-own, keep-none}
+use Rattle.bin_checks.specs.declared.ReceiverCore.{ReceiverCore}
 use Rattle.bin_calls.specs.Calls.{Left, leftBy, leaves}
 
 -- alike in both cases
@@ -44,15 +45,15 @@ pub pick-both : {A B C : Type 0} (F : A → C) (G : B → C) (b : Bool) {x y : A
 pick-both F G true p q = p
 pick-both F G false p q = q
 
-module _ (own : List ℕ) (shown : Place) (f reply : List ℕ) where
+module _ (c : ReceiverCore) (own : List ℕ) (shown : Place) (f reply : List ℕ) where
   abbrev F : ReceiverMove → Left
-  F a = leftBy shown a own reply
+  F a = leftBy c own shown a reply
 
   abbrev G : Done → Left
-  G d = leaves own shown f reply d
+  G d = leaves c own shown f reply d
 
   abbrev At : List ℕ → Step → Left
-  At a s = leaves own shown f reply (doneAs s a)
+  At a s = G (doneAs s a)
 
   to : (st : ReceiverState) (v : Option Saved) (k : Keeping) (a : List ℕ) (frames : List (List ℕ)) (out : Out) (n : ℕ) (place : Place)
       → keepingOf v ≡ k → appended 0 (nameOf v) own ≡ appended 0 (bytesAt f place) own → frames ≡ framesOf (bytesAt f place) out
@@ -157,26 +158,26 @@ module _ (own : List ℕ) (shown : Place) (f reply : List ℕ) where
   fails-is o (Extended crc) k a h = stays _ k a Stop 0 h
   fails-is o (Ended e) k a h = stays _ k a Silent 0 h
 
-some-is : (own : List ℕ) (shown : Place) (x : ℕ) (f reply : List ℕ) (t : ReceiverSettings) (st : ReceiverState) (k : Keeping) (a : List ℕ)
+some-is : (c : ReceiverCore) (own : List ℕ) (shown : Place) (x : ℕ) (f reply : List ℕ) (t : ReceiverSettings) (st : ReceiverState) (k : Keeping) (a : List ℕ)
     → keepingOf (savedBy k own) ≡ k
-    → leftBy shown (receiverTakes t st (savedBy k own) a (x ∷ f)) own reply
-    ≡ leaves own shown (x ∷ f) reply (busyStep (t .room) (t .resumes) st k (x ∷ f) own a)
+    → leftBy c own shown (receiverTakes t st (savedBy k own) a (x ∷ f)) reply
+    ≡ leaves c own shown (x ∷ f) reply (busyStep (t .room) (t .resumes) st k (x ∷ f) own a)
 unfolding receiverTakes heard
-some-is own shown x f reply t Waiting k a h = hears-is own shown (x ∷ f) reply t k a (frameOf (x ∷ f)) h
-some-is own shown x f reply t (Basic size kept) k a h =
-    sorted-is own shown (x ∷ f) reply (Basic size kept) k a _ _ h (basic-frame-is own shown (x ∷ f) reply size kept k a h)
-some-is own shown x f reply t (Extended crc) k a h =
-    sorted-is own shown (x ∷ f) reply (Extended crc) k a _ _ h (frame-is own shown (x ∷ f) reply crc k a h (omega arith))
-some-is own shown x f reply t (Ended o) k a h = stays own shown (x ∷ f) reply (Ended o) k a Silent 0 h
+some-is c own shown x f reply t Waiting k a h = hears-is c own shown (x ∷ f) reply t k a (frameOf (x ∷ f)) h
+some-is c own shown x f reply t (Basic size kept) k a h =
+    sorted-is c own shown (x ∷ f) reply (Basic size kept) k a _ _ h (basic-frame-is c own shown (x ∷ f) reply size kept k a h)
+some-is c own shown x f reply t (Extended crc) k a h =
+    sorted-is c own shown (x ∷ f) reply (Extended crc) k a _ _ h (frame-is c own shown (x ∷ f) reply crc k a h (omega arith))
+some-is c own shown x f reply t (Ended o) k a h = stays c own shown (x ∷ f) reply (Ended o) k a Silent 0 h
 
 -- a frame has come
-pub takes-is : (own : List ℕ) (shown : Place) (f reply : List ℕ) (t : ReceiverSettings) (st : ReceiverState) (k : Keeping) (a : List ℕ)
+pub takes-is : (c : ReceiverCore) (own : List ℕ) (shown : Place) (f reply : List ℕ) (t : ReceiverSettings) (st : ReceiverState) (k : Keeping) (a : List ℕ)
     → keepingOf (savedBy k own) ≡ k
-    → leftBy shown (receiverTakes t st (savedBy k own) a f) own reply
-    ≡ leaves own shown f reply (frameStep (t .room) (t .resumes) st k f own a)
+    → leftBy c own shown (receiverTakes t st (savedBy k own) a f) reply
+    ≡ leaves c own shown f reply (frameStep (t .room) (t .resumes) st k f own a)
 unfolding receiverTakes frameStep
-takes-is own shown [] reply t st k a h = stays own shown [] reply st k a Silent 0 h
-takes-is own shown (x ∷ f) reply t st k a h =
-    some-is own shown x f reply t st k a h
-    ∙ ap (leaves own shown (x ∷ f) reply)
+takes-is c own shown [] reply t st k a h = stays c own shown [] reply st k a Silent 0 h
+takes-is c own shown (x ∷ f) reply t st k a h =
+    some-is c own shown x f reply t st k a h
+    ∙ ap (leaves c own shown (x ∷ f) reply)
     (no (doneAs (goesTo st k Silent 0) a) (busyStep (t .room) (t .resumes) st k (x ∷ f) own a) (ne-eqb (length (x ∷ f)) 0 (λ e. omega arith)))

@@ -1,35 +1,34 @@
--- How a receiver begins, its record's name by its place in the record's bytes. (Document 01, "The saved record".)
+-- How a receiver begins from a record. (Document 01, "The saved record".)
 use Prim.Native.Nat.{ℕ}
+use mathlib.Core.Bool.{Bool}
 use mathlib.Core.List.{List}
-use lib.ListN.{length}
+use mathlib.Core.Option.{Option, none, some}
+use lib.ListN.{replicate}
 use Rattle.fields.specs.Pick.{pick}
-use Rattle.fields.specs.Lists.{bytesAt}
+use Rattle.fields.specs.Buffer.{appended}
 use Rattle.records.specs.declared.Record.{Record}
 use Rattle.records.specs.declared.RecordRead.{RecordRead}
 use Rattle.records.specs.declared.RecordRead.the-variants.{Good, Unreadable}
-use Rattle.calls.specs.declared.Outcome.{Outcome}
+use Rattle.records.specs.Saved.{Saved, savedOf}
 use Rattle.calls.specs.declared.Outcome.the-variants.{RecordUnreadable, RecordOver}
-use Rattle.calls.specs.declared.Keeping.the-variants.{Nothing, Of}
-use Rattle.calls.specs.Saving.{isWithin}
+use Rattle.calls.specs.Saving.{isWithin, keepingOf, nameOf}
+use Rattle.bin.specs.declared.ReceiverState.{ReceiverState}
 use Rattle.bin.specs.declared.ReceiverState.the-variants.{Waiting, Ended}
-use Rattle.bin_steps.specs.Steps.{nowhere}
 use Rattle.bin_checks.specs.declared.Begun.{Begun}
 
-abbrev pub begunEnded : Outcome → Begun
-begunEnded o = record { state = Ended o; keeping = Nothing; name = nowhere }
+-- in a state, with a record or none
+abbrev pub begunIn : ReceiverState → ℕ → Bool → Option Saved → Begun
+begunIn st room resumes v = record {
+  name = appended 0 (nameOf v) (replicate 64 0);
+  core = record { state = st; room = room; resumes = resumes; keeping = keepingOf v };
+}
 
 -- kept over size, or size over area (2)
-unfoldable pub begunWith : List ℕ → ℕ → Record → Begun
-begunWith b room r =
-    pick (isWithin (r .kept) (r .size) room)
-    (record {
-      state = Waiting;
-      keeping = Of (record { named = length (bytesAt b (r .name)); size = r .size; kept = r .kept; stamp = r .stamp });
-      name = r .name;
-    })
-    (begunEnded RecordOver)
+unfoldable pub begunWith : List ℕ → ℕ → Bool → Record → Begun
+begunWith b room resumes r =
+    pick (isWithin (r .kept) (r .size) room) (begunIn Waiting room resumes (some (savedOf b r))) (begunIn (Ended RecordOver) room resumes none)
 
 -- a record that is unreadable is 1
-abbrev pub begunBy : List ℕ → ℕ → RecordRead → Begun
-begunBy b room (Good r) = begunWith b room r
-begunBy b room Unreadable = begunEnded RecordUnreadable
+abbrev pub begunBy : List ℕ → ℕ → Bool → RecordRead → Begun
+begunBy b room resumes (Good r) = begunWith b room resumes r
+begunBy b room resumes Unreadable = begunIn (Ended RecordUnreadable) room resumes none

@@ -1,4 +1,4 @@
-// What a #BIN# receiver asks before it decides: the record that it begins with, the checks of a call, the text to show in a frame.
+// What a #BIN# receiver asks before it decides: how it begins from a record, the checks of a call, the text to show in a frame.
 use bin::ReceiverState;
 use calls::Entry;
 use calls::Keeping;
@@ -8,81 +8,100 @@ use fields::Place;
 use records::Record;
 use records::RecordRead;
 ghost use mathlib.Core.Path.{_≡_};
+ghost use mathlib.Core.Option.{none};
 ghost use Rattle.records.specs.Record.{recordOf};
 ghost use Rattle.calls.specs.Checks.{checkOf};
 ghost use Rattle.bin.specs.Steps.{receiverEnded};
-ghost use Rattle.bin_checks.specs.Begun.{begunEnded, begunWith, begunBy};
+ghost use Rattle.bin_checks.specs.Begun.{begunIn, begunWith, begunBy};
 ghost use Rattle.bin_checks.specs.Shown.{isTaking, shownIn};
+
+// A receiver but for the bytes of its record's name.
+pub struct ReceiverCore {
+    pub state: ReceiverState,
+    // The area's length.
+    pub room: usize,
+    // Whether a record is resumed.
+    pub resumes: bool,
+    pub keeping: Keeping,
+}
 
 // How a receiver begins.
 pub struct Begun {
-    pub state: ReceiverState,
-    pub keeping: Keeping,
-    // Where the record's name stands in the record's bytes; of no bytes where there is no record.
-    pub name: Place,
+    // The record's name stands at the front.
+    pub name: [u8; 64],
+    pub core: ReceiverCore,
 }
 
 // A beginning that is refused: an end that has ended, with no record.
-fn begin_ended(outcome: Outcome) -> Begun
-    ensures { λ b. ⌜ b ≡ begunEnded outcome ⌝ }
+fn begin_ended(outcome: Outcome, room: usize, resumes: bool) -> Begun
+    ensures { λ b. ⌜ b ≡ begunIn (ReceiverState.Ended outcome) room resumes none ⌝ }
 {
-    let name = Place { start: 0, len: 0 };
+    let name = [0; 64];
     Begun {
-        state: ReceiverState::Ended { outcome },
-        keeping: Keeping::Nothing,
         name,
+        core: ReceiverCore {
+            state: ReceiverState::Ended { outcome },
+            room,
+            resumes,
+            keeping: Keeping::Nothing,
+        },
     }
 }
 
 // From a record; kept over size, or size over area, is 2.
-fn begin_saved(r: Record, bytes: &[u8], room: usize) -> Begun
-    ensures { λ b. ⌜ b ≡ begunWith (now (bytes .entry)) room r ⌝ }
+fn begin_saved(r: Record, bytes: &[u8], room: usize, resumes: bool) -> Begun
+    ensures { λ b. ⌜ b ≡ begunWith (now (bytes .entry)) room resumes r ⌝ }
 {
-    let place = r.name;
-    let stamp = r.stamp;
     if keeping::is_within(r.kept, r.size, room) {
-        let name = fields::bytes_at(bytes, place);
+        let own = fields::bytes_at(bytes, r.name);
+        let mut name = [0; 64];
+        buffers::append_bytes(&mut name, 0, own);
+        let stamp = r.stamp;
         let entry = Entry {
-            named: name.len(),
+            named: own.len(),
             size: r.size,
             kept: r.kept,
             stamp,
         };
         return Begun {
-            state: ReceiverState::Waiting,
-            keeping: Keeping::Of(entry),
-            name: place,
+            name,
+            core: ReceiverCore {
+                state: ReceiverState::Waiting,
+                room,
+                resumes,
+                keeping: Keeping::Of(entry),
+            },
         };
     }
-    begin_ended(Outcome::RecordOver)
+    begin_ended(Outcome::RecordOver, room, resumes)
 }
 
 // From a record's bytes; one that is unreadable is 1.
-pub fn begin(bytes: &[u8], room: usize) -> Begun
-    ensures { λ b. ⌜ b ≡ begunBy (now (bytes .entry)) room (recordOf (now (bytes .entry))) ⌝ }
+pub fn begin(bytes: &[u8], room: usize, resumes: bool) -> Begun
+    ensures { λ b. ⌜ b ≡ begunBy (now (bytes .entry)) room resumes (recordOf (now (bytes .entry))) ⌝ }
 {
     let RecordRead::Good(r) = record_reader::record_of(bytes) else {
-        return begin_ended(Outcome::RecordUnreadable);
+        return begin_ended(Outcome::RecordUnreadable, room, resumes);
     };
-    begin_saved(r, bytes, room)
+    begin_saved(r, bytes, room, resumes)
 }
 
 fn is_ended(state: ReceiverState) -> bool
     ensures { λ r. ⌜ r ≡ receiverEnded state ⌝ }
 {
-    match state {
-        ReceiverState::Waiting => false,
-        ReceiverState::Basic { size: _, kept: _ } => false,
-        ReceiverState::Extended { crc: _ } => false,
-        ReceiverState::Ended { outcome: _ } => true,
+    if let ReceiverState::Ended { .. } = state {
+        true
+    } else {
+        false
     }
 }
 
 // The checks of a call.
-pub fn check(state: ReceiverState, reply: usize, frame: usize, area: usize, room: usize) -> Status
-    ensures { λ r. ⌜ r ≡ checkOf (receiverEnded state) reply frame area room ⌝ }
+pub fn check(core: ReceiverCore, reply: usize, frame: usize, area: usize) -> Status
+    ensures { λ r. ⌜ r ≡ checkOf (receiverEnded (core .state)) reply frame area (core .room) ⌝ }
 {
-    calls::check(is_ended(state), reply, frame, area, room)
+    let state = core.state;
+    calls::check(is_ended(state), reply, frame, area, core.room)
 }
 
 // Whether a line was accepted.

@@ -8,6 +8,9 @@ use Rattle.bin_calls.proofs.finish.Tie as tie
 bytes-at-requires : tie.Need-bytes-at-requires
 bytes-at-requires c κs = search needs
 
+slice-aggregate-append-bytes : tie.Need-slice-aggregate-append-bytes
+slice-aggregate-append-bytes c = search needs
+
 append-bytes-requires : tie.Need-append-bytes-requires
 append-bytes-requires c κs = search needs
 
@@ -17,21 +20,18 @@ put-requires c κs = search needs
 same-length : tie.Need-same-length
 same-length c = search needs
 
-same-length-2 : tie.Need-same-length-2
-same-length-2 c = search needs
-
 returns : tie.Need-returns
 returns c =
-    let z = said _ _ _ _ _ (c .before .before .before .before .before .before .before .before .before .before .before .before .before .pre) (c .before .before .put .ensures) in
-    rw (c .before .before .before .before .before .before .append-bytes .ensures .1, z .0, z .1, c .before .before .before .before .before .before .before .before .bytes-at .ensures) (refl, refl, refl)
+    let z = said _ _ _ _ _ (c .before .before .before .before .before .before .before .before .before .before .pre) (c .before .before .put .ensures) in
+    rw (c .before .before .before .before .before .append-bytes .ensures .1, z .0, z .1, c .before .before .before .before .before .before .before .bytes-at .ensures) (refl, refl)
 
 pub finish-spec : {M : Type 1} → statement M
 finish-spec =
     tie.close
     (tie.spec
     bytes-at-requires
+    slice-aggregate-append-bytes
     append-bytes-requires
     put-requires
     same-length
-    same-length-2
     returns)

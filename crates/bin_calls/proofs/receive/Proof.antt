@@ -1,5 +1,4 @@
 -- `receive` checks the call, decides and acts as the definition says. Assumes nothing.
-use mathlib.Core.Path.{_∙_}
 use denote.Ref.{now}
 use Rattle.calls.proofs.Laws.{taken-room, taken-by}
 use Rattle.bin_calls.proofs.Calls.{receive-taken, receive-refused}
@@ -13,6 +12,9 @@ check-requires c κs = search needs
 is-taken-requires : tie.Need-is-taken-requires
 is-taken-requires c κs = search needs
 
+slice-aggregate-own : tie.Need-slice-aggregate-own
+slice-aggregate-own c = search needs
+
 held-requires : tie.Need-held-requires
 held-requires c κs = search needs
 
@@ -24,7 +26,7 @@ shown-in-requires c κs = search needs
 
 finish-requires : tie.Need-finish-requires
 finish-requires c κs =
-    taken-room _ _ _ _ _ (taken-by (c .before .before .before .before .before .before .before .before .before .before .before .before .check .ensures) (c .before .before .before .before .before .before .before .before .before .before .before .is-taken .ensures) (c .before .before .before .before .before .before .before .before .before .before .if1 .taken)) .0
+    taken-room _ _ _ _ _ (taken-by (c .before .before .before .before .before .before .before .before .before .before .check .ensures) (c .before .before .before .before .before .before .before .before .before .is-taken .ensures) (c .before .before .before .before .before .before .before .before .if1 .taken)) .0
 
 same-length : tie.Need-same-length
 same-length c = search needs
@@ -32,23 +34,18 @@ same-length c = search needs
 same-length-2 : tie.Need-same-length-2
 same-length-2 c = search needs
 
-same-length-3 : tie.Need-same-length-3
-same-length-3 c = search needs
-
 returns : tie.Need-returns
 returns c =
-    let a = c .before .before .before .before .before .before .before .before .before .before .before .before .before .before .before .before .before .before .before .before .before .before .args in
-    receive-taken (a .state) (a .keeping) (now (a .name)) (now (a .area)) (now (a .reply)) (record { room = a .room; resumes = a .resumes }) (now (a .frame)) (taken-by (c .before .before .before .before .before .before .before .before .before .before .before .before .before .before .before .before .before .check .ensures) (c .before .before .before .before .before .before .before .before .before .before .before .before .before .before .before .before .is-taken .ensures) (c .before .before .before .before .before .before .before .before .before .before .before .before .before .before .before .if1 .taken))
-    ∙ rw (← c .before .before .before .before .before .before .before .before .before .before .before .before .before .held .ensures, c .before .before .before .before .before .before .before .before .before .before .take .ensures, c .before .before .before .before .finish .ensures .0, c .before .before .before .before .finish .ensures .1, c .before .before .before .before .finish .ensures .2, c .before .before .before .before .before .before .before .shown-in .ensures)
+    let a = c .before .before .before .before .before .before .before .before .before .before .before .before .before .before .before .before .before .args in
+    receive-taken (a .core) (a .t2) (now (a .area)) (now (a .reply)) (now (a .frame)) _ _ _ _ _ _ (taken-by (c .before .before .before .before .before .before .before .before .before .before .before .before .before .check .ensures) (c .before .before .before .before .before .before .before .before .before .before .before .before .is-taken .ensures) (c .before .before .before .before .before .before .before .before .before .before .before .if1 .taken)) (c .before .before .before .before .before .before .before .before .before .held .ensures) (c .before .before .before .before .before .before .before .take .ensures) (c .before .before .before .before .shown-in .ensures) (c .before .before .finish .ensures)
 
 refuse-requires : tie.Need-refuse-requires
 refuse-requires c κs = search needs
 
 returns-2 : tie.Need-returns-2
 returns-2 c =
-    let a = c .before .before .before .before .before .before .before .before .args in
-    receive-refused (a .state) (a .keeping) (now (a .name)) (now (a .area)) (now (a .reply)) (record { room = a .room; resumes = a .resumes }) (now (a .frame)) (taken-by (c .before .before .before .check .ensures) (c .before .before .is-taken .ensures) (c .before .if1 .left))
-    ∙ rw (c .refuse .ensures, c .before .before .before .check .ensures)
+    let a = c .before .before .before .before .before .before .before .args in
+    receive-refused (a .core) (a .t2) (now (a .area)) (now (a .reply)) (now (a .frame)) _ _ (taken-by (c .before .before .before .check .ensures) (c .before .before .is-taken .ensures) (c .before .if1 .left)) (c .before .before .before .check .ensures) (c .refuse .ensures)
 
 pub receive-spec : {M : Type 1} → statement M
 receive-spec =
@@ -56,13 +53,13 @@ receive-spec =
     (tie.spec
     check-requires
     is-taken-requires
+    slice-aggregate-own
     held-requires
     take-requires
     shown-in-requires
     finish-requires
     same-length
     same-length-2
-    same-length-3
     returns
     refuse-requires
     returns-2)

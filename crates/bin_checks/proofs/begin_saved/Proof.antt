@@ -12,9 +12,17 @@ is-within-requires c κs = search needs
 bytes-at-requires : tie.Need-bytes-at-requires
 bytes-at-requires c κs = search needs
 
+slice-aggregate-append-bytes : tie.Need-slice-aggregate-append-bytes
+slice-aggregate-append-bytes c = search needs
+
+append-bytes-requires : tie.Need-append-bytes-requires
+append-bytes-requires c κs = search needs
+
 returns : tie.Need-returns
 unfolding begunWith
-returns c = rw (c .bytes-at .ensures) (yes _ _ (sym (c .before .before .is-within .ensures) ∙ c .before .if1 .taken))
+returns c =
+    rw (c .before .append-bytes .ensures .1, c .before .before .before .bytes-at .ensures)
+    (yes _ _ (sym (c .before .before .before .before .before .is-within .ensures) ∙ c .before .before .before .before .if1 .taken))
 
 begin-ended-requires : tie.Need-begin-ended-requires
 begin-ended-requires c κs = search needs
@@ -26,4 +34,11 @@ returns-2 c = c .begin-ended .ensures ∙ no _ _ (sym (c .before .before .is-wit
 pub begin-saved-spec : {M : Type 1} → statement M
 begin-saved-spec =
     tie.close
-    (tie.spec is-within-requires bytes-at-requires returns begin-ended-requires returns-2)
+    (tie.spec
+    is-within-requires
+    bytes-at-requires
+    slice-aggregate-append-bytes
+    append-bytes-requires
+    returns
+    begin-ended-requires
+    returns-2)

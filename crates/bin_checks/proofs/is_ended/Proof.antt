@@ -1,4 +1,5 @@
 -- `is_ended` says so of `Ended` alone. Assumes nothing.
+use Rattle.bin_checks.proofs.Tests.{not-ended}
 use borrow.Author.Needs.{needs}
 use Rattle.bin_checks.proofs.is_ended.Statement.{statement}
 use Rattle.bin_checks.proofs.is_ended.Tie as tie
@@ -6,36 +7,11 @@ use Rattle.bin_checks.proofs.is_ended.Tie as tie
 enum-told : tie.Need-enum-told
 enum-told c = search needs
 
-enum-told-2 : tie.Need-enum-told-2
-enum-told-2 c = search needs
-
-enum-told-3 : tie.Need-enum-told-3
-enum-told-3 c = search needs
-
-enum-told-4 : tie.Need-enum-told-4
-enum-told-4 c = search needs
-
 returns : tie.Need-returns
 returns c = search needs
 
 returns-2 : tie.Need-returns-2
-returns-2 c = search needs
-
-returns-3 : tie.Need-returns-3
-returns-3 c = search needs
-
-returns-4 : tie.Need-returns-4
-returns-4 c = search needs
+returns-2 c = not-ended (c .before .args .state) (c .match .keys2)
 
 pub is-ended-spec : {M : Type 1} → statement M
-is-ended-spec =
-    tie.close
-    (tie.spec
-    enum-told
-    enum-told-2
-    enum-told-3
-    enum-told-4
-    returns
-    returns-2
-    returns-3
-    returns-4)
+is-ended-spec = tie.close (tie.spec enum-told returns returns-2)

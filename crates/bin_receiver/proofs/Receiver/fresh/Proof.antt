@@ -1,18 +1,13 @@
 -- `fresh` is the beginning with no record. Assumes nothing.
+use lib.ListN.{replicate}
+use Rattle.calls.proofs.Names.{keep-none}
 use Rattle.bin_receiver.specs.Receiver.{fresh}
-use borrow.Author.Needs.{needs}
 use Rattle.bin_receiver.proofs.Receiver.fresh.Statement.{statement}
 use Rattle.bin_receiver.proofs.Receiver.fresh.Tie as tie
 
-slice-aggregate-begin : tie.Need-slice-aggregate-begin
-slice-aggregate-begin c = search needs
-
-begin-requires : tie.Need-begin-requires
-begin-requires c κs = search needs
-
 returns : tie.Need-returns
 unfolding fresh
-returns c = c .begin .ensures
+returns c = rw (keep-none (replicate 64 0))
 
 pub fresh-spec : {M : Type 1} → statement M
-fresh-spec = tie.close (tie.spec slice-aggregate-begin begin-requires returns)
+fresh-spec = tie.close (tie.spec returns)

@@ -1,18 +1,9 @@
--- `receive` is what the call below leaves, with the receiver's settings. Assumes nothing.
+-- `receive` is what the call below leaves. Assumes nothing.
 use denote.Ref.{now}
 use Rattle.bin_receiver.proofs.Calls.{receive-by}
 use borrow.Author.Needs.{needs}
 use Rattle.bin_receiver.proofs.Receiver.receive.Statement.{statement}
 use Rattle.bin_receiver.proofs.Receiver.receive.Tie as tie
-
-state-requires : tie.Need-state-requires
-state-requires c κs = search needs
-
-kept-requires : tie.Need-kept-requires
-kept-requires c κs = search needs
-
-slice-aggregate-receive : tie.Need-slice-aggregate-receive
-slice-aggregate-receive c = search needs
 
 receive-requires : tie.Need-receive-requires
 receive-requires c κs = search needs
@@ -28,18 +19,9 @@ same-length-2 c = search needs
 
 returns : tie.Need-returns
 returns c =
-    let a = c .before .before .before .before .before .before .before .before .before .before .before .before .before .before .before .before .args in
-    receive-by (a .self) (now (a .area)) (now (a .reply)) (now (a .frame)) _ _ _ _ (c .before .before .before .before .before .before .before .before .before .before .before .before .state .ensures) (c .before .before .before .before .before .before .before .before .before .before .before .kept .ensures) (c .before .before .before .before .before .before .receive .ensures) (c .answered .ensures)
+    let a = c .before .before .before .before .before .before .before .before .before .before .before .before .args in
+    receive-by (a .self) (now (a .area)) (now (a .reply)) (now (a .frame)) _ _ (c .before .before .before .before .before .receive .ensures) (c .answered .ensures)
 
 pub receive-spec : {M : Type 1} → statement M
 receive-spec =
-    tie.close
-    (tie.spec
-    state-requires
-    kept-requires
-    slice-aggregate-receive
-    receive-requires
-    answered-requires
-    same-length
-    same-length-2
-    returns)
+    tie.close (tie.spec receive-requires answered-requires same-length same-length-2 returns)

@@ -3,9 +3,6 @@ use borrow.Author.Needs.{needs}
 use Rattle.bin_receiver.proofs.Receiver.record.Statement.{statement}
 use Rattle.bin_receiver.proofs.Receiver.record.Tie as tie
 
-kept-requires : tie.Need-kept-requires
-kept-requires c κs = search needs
-
 slice-aggregate-write-record : tie.Need-slice-aggregate-write-record
 slice-aggregate-write-record c = search needs
 
@@ -16,9 +13,8 @@ same-length : tie.Need-same-length
 same-length c = search needs
 
 returns : tie.Need-returns
-returns c = rw (← c .before .before .before .before .before .before .kept .ensures) (c .before .before .write-record .ensures)
+returns c = c .before .before .write-record .ensures
 
 pub record-spec : {M : Type 1} → statement M
 record-spec =
-    tie.close
-    (tie.spec kept-requires slice-aggregate-write-record write-record-requires same-length returns)
+    tie.close (tie.spec slice-aggregate-write-record write-record-requires same-length returns)

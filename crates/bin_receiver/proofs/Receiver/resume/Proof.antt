@@ -1,25 +1,18 @@
 -- `resume` is the beginning that the record's bytes give. Assumes nothing.
-use mathlib.Core.Path.{sym, _∙_}
+use mathlib.Core.Path.{sym}
 use denote.Ref.{now}
 use Rattle.bin_receiver.proofs.Calls.{resume-is}
 use borrow.Author.Needs.{needs}
 use Rattle.bin_receiver.proofs.Receiver.resume.Statement.{statement}
 use Rattle.bin_receiver.proofs.Receiver.resume.Tie as tie
-use Rattle.bin_receiver.proofs.begin.Reads as begin-reads′
 
 begin-requires : tie.Need-begin-requires
 begin-requires c κs = search needs
 
-bytes-at-requires : tie.Need-bytes-at-requires
-bytes-at-requires c κs = search needs
-
-begin-requires-2 : tie.Need-begin-requires-2
-begin-requires-2 c κs = search needs
-
 returns : tie.Need-returns
 returns c =
     let a = c .before .before .before .before .args in
-    rw (c .begin2 .ensures, c .before .bytes-at .ensures, c .before .before .begin .ensures) (sym (resume-is (now (a .bytes)) (a .room) (a .resumes)))
+    rw (c .before .before .begin .ensures) (sym (resume-is (now (a .bytes)) (a .room) (a .resumes)))
 
 pub resume-spec : {M : Type 1} → statement M
-resume-spec = tie.close (tie.spec begin-requires bytes-at-requires begin-requires-2 returns)
+resume-spec = tie.close (tie.spec begin-requires returns)
