@@ -4,23 +4,20 @@ use mathlib.Core.Bool.{Bool}
 use mathlib.Core.List.{List, [], _∷_, append-nil}
 use Prim.Native.Nat.{ℕ, _≤_, _<_}
 use native.Mathlib.Omega.{arith}
-use lib.ListN.{length}
+use lib.ListN.{length, take}
 use borrow.Author.Tests.{lt-ltb, le-ltb}
 use Rattle.fields.specs.declared.Written.{Written}
-use Rattle.fields.specs.Buffer.{Form, bytesIn, over, appended, appendedEnd, writtenOf, leftOf}
+use Rattle.fields.specs.Buffer.{Form, bytesIn, appended, appendedEnd, writtenOf, leftOf}
 use Rattle.fields.proofs.Buffer.{over-none, append-fits}
 use Rattle.crc.specs.Crc.{crcOf}
 use Rattle.lines.specs.Element.{basicForm, lineForm, formOf}
 use Rattle.calls.specs.Count.{countOf}
 use Rattle.calls.proofs.Laws.{wrote as laid}
-use Rattle.bin.specs.declared.Announce.{Announce}
 use Rattle.bin.specs.declared.Announce.the-variants.{Basic, Extended}
-use Rattle.bin.specs.Steps.{joined, lineOf}
-use Rattle.bin_frames.specs.Frames.{settingsBy, laidOf}
-
--- the frame b at the front of the buffer d, which is then e; r is how many bytes that are
-abbrev pub Laid : List ℕ → List ℕ → List ℕ → ℕ → Type 0
-Laid b d e r = (r ≡ length b) × (e ≡ over 0 b d)
+use Rattle.bin.specs.Steps.{joined, cut, lineOf}
+use Rattle.bin_frames.specs.declared.SenderCore.{SenderCore}
+use Rattle.bin_frames.specs.Frames.{blockOf, settingsBy, laidOf, Laid}
+use Rattle.bin_frames.proofs.Cutting.{frame-most}
 
 -- a writer that answers w has laid down what its form f has
 pub wrote : (b : List ℕ) (f : Form) (d e : List ℕ) (w : Written) (r : ℕ) → b ≡ bytesIn f → 259 ≤ length d → r ≡ countOf w
@@ -28,20 +25,20 @@ pub wrote : (b : List ℕ) (f : Form) (d e : List ℕ) (w : Written) (r : ℕ) �
 wrote b f d e w r l h q p = let z = laid f d e w h p in rw l (q ∙ z .0, z .1)
 
 -- a frame of the file
-pub copied : (b frame d e : List ℕ) (r : ℕ) → frame ≡ b → length b ≤ length d → (r ≡ appendedEnd 0 frame d) × (e ≡ appended 0 frame d)
-    → Laid b d e r
-copied b frame d e r q h p =
-    let a = append-fits 0 b d (omega arith) in
-    (p .0 ∙ ap (λ (l : List ℕ). appendedEnd 0 l d) q ∙ sym (a .0) ∙ omega arith, p .1 ∙ ap (λ (l : List ℕ). appended 0 l d) q ∙ sym (a .1))
+pub copied : (block : ℕ) (rest frame d e : List ℕ) (r : ℕ) → frame ≡ cut (blockOf block) rest → 259 ≤ length d
+    → (r ≡ appendedEnd 0 frame d) × (e ≡ appended 0 frame d) → Laid (cut (blockOf block) rest) d e r
+copied block rest frame d e r q h p =
+    let a = append-fits 0 frame d (omega (arith, frame-most block rest frame q)) in
+    rw (← q) (p .0 ∙ sym (a .0) ∙ omega arith, p .1 ∙ sym (a .1))
 
 -- the line
-module _ (announce : Announce) (name : List ℕ) (size block : ℕ) (file : List ℕ) where
-  pub line-basic : announce ≡ Basic → lineOf (settingsBy announce name size block) file ≡ bytesIn (basicForm size)
+module _ (core : SenderCore) (name file : List ℕ) where
+  pub line-basic : core .announce ≡ Basic → lineOf (settingsBy core name) file ≡ bytesIn (basicForm (core .size))
   unfolding formOf
   line-basic e = rw e
 
-  pub line-extended : (stamp : ℕ) (resumes : Bool) (crc : ℕ) (own : List ℕ) → announce ≡ Extended stamp resumes → crc ≡ crcOf file → own ≡ name
-      → lineOf (settingsBy announce name size block) file ≡ bytesIn (lineForm size crc stamp resumes own)
+  pub line-extended : (stamp : ℕ) (resumes : Bool) (crc : ℕ) (own : List ℕ) → core .announce ≡ Extended stamp resumes → crc ≡ crcOf file
+      → own ≡ take (core .named) name → lineOf (settingsBy core name) file ≡ bytesIn (lineForm (core .size) crc stamp resumes own)
   unfolding formOf
   line-extended stamp resumes crc own e c n = rw (e, c, n)
 

@@ -1,12 +1,21 @@
-// The frames that a #BIN# sender sends, laid into the reply buffer.
+// The #BIN# sender without the bytes of the file's name, and the frames that it sends, laid into the reply buffer.
 use bin::Announce;
+use bin::SenderState;
 ghost use mathlib.Core.Path.{_≡_};
-ghost use Prim.Native.Nat.{ℕ, _≤_};
-ghost use lib.ListN.{length, take, drop};
-ghost use Rattle.fields.specs.Buffer.{over};
-ghost use Rattle.lines.specs.Frame.{stopFrame};
-ghost use Rattle.bin.specs.Steps.{cut as cutOf, lineOf};
-ghost use Rattle.bin_frames.specs.Frames.{blockOf, settingsBy, framesOf, laidOf};
+ghost use Prim.Native.Nat.{_≤_};
+ghost use lib.ListN.{length, drop};
+ghost use Rattle.bin.specs.Steps.{cut, lineOf};
+ghost use Rattle.bin_frames.specs.Frames.{blockOf, settingsBy, framesOf, laidOf, Laid};
+
+pub struct SenderCore {
+    pub state: SenderState,
+    pub announce: Announce,
+    // How long the name is.
+    pub named: usize,
+    // The file's length.
+    pub size: u32,
+    pub block: usize,
+}
 
 // What is to be sent.
 pub enum Out {
@@ -30,85 +39,49 @@ fn block_of(block: usize) -> usize
     BLOCK
 }
 
-// The next frame of the rest: of one byte where the rest would be read as display, or the frame as stop.
-fn cut(block: usize, rest: &[u8]) -> &[u8]
-    ensures { λ r. ⌜ now r ≡ cutOf block (now (rest .entry)) ⌝ }
+// The next frame of the file from index from on: of one byte where the rest would be read as display, or the frame as stop.
+pub fn next(block: usize, file: &[u8], from: usize) -> &[u8]
+    ensures { λ r. ⌜ now r ≡ cut (blockOf block) (drop from (now (file .entry))) ⌝ }
 {
+    let rest = fields::part(file, from, file.len());
     if lines::is_display(rest) {
         return fields::part(rest, 0, 1);
     }
-    let frame = fields::part(rest, 0, block);
+    let frame = fields::part(rest, 0, block_of(block));
     if lines::is_stop(frame) {
         return fields::part(rest, 0, 1);
     }
     frame
 }
 
-// The next frame of the file from index from on.
-pub fn next(block: usize, file: &[u8], from: usize) -> &[u8]
-    ensures { λ r. ⌜ now r ≡ cutOf (blockOf block) (drop from (now (file .entry))) ⌝ }
-{
-    cut(block_of(block), fields::part(file, from, file.len()))
-}
-
 // The line is the frame; the name stands at the front of the array.
-fn put_line(
-    announce: Announce,
-    name: &[u8; 64],
-    named: usize,
-    size: u32,
-    file: &[u8],
-    reply: &mut [u8],
-) -> usize
+fn put_line(core: SenderCore, name: [u8; 64], file: &[u8], reply: &mut [u8]) -> usize
     requires { ⌜ 259 ≤ length (now reply) ⌝ }
-    ensures { λ r. ⌜ ((block : ℕ) → (r ≡ length (lineOf (settingsBy announce (take named (now (name .entry))) size block) (now (file .entry)))) × (now (reply .exit) ≡ over 0 (lineOf (settingsBy announce (take named (now (name .entry))) size block) (now (file .entry))) (now (reply .entry)))) ⌝ }
+    ensures { λ r. ⌜ Laid (lineOf (settingsBy core name) (now (file .entry))) (now (reply .entry)) (now (reply .exit)) r ⌝ }
 {
+    let announce = core.announce;
     match announce {
-        Announce::Basic => calls::count(line_writer::write_basic(reply, size)),
+        Announce::Basic => calls::count(line_writer::write_basic(reply, core.size)),
         Announce::Extended { stamp, resumes } => {
+            let all = &name[..];
+            let own = fields::part(all, 0, core.named);
             let crc = crc::crc_of(file);
-            let own = fields::part(name, 0, named);
-            calls::count(line_writer::write_line(reply, size, crc, stamp, resumes, own))
+            calls::count(line_writer::write_line(reply, core.size, crc, stamp, resumes, own))
         }
     }
 }
 
-// The next bytes of the file are the frame.
-fn put_data(block: usize, file: &[u8], from: usize, reply: &mut [u8]) -> usize
-    requires { ⌜ 259 ≤ length (now reply) ⌝ }
-    ensures { λ r. ⌜ (r ≡ length (cutOf (blockOf block) (drop from (now (file .entry))))) × (now (reply .exit) ≡ over 0 (cutOf (blockOf block) (drop from (now (file .entry)))) (now (reply .entry))) ⌝ }
-{
-    buffers::append_bytes(reply, 0, next(block, file, from))
-}
-
-// The stop frame.
-fn put_stop(reply: &mut [u8]) -> usize
-    requires { ⌜ 259 ≤ length (now reply) ⌝ }
-    ensures { λ r. ⌜ (r ≡ length stopFrame) × (now (reply .exit) ≡ over 0 stopFrame (now (reply .entry))) ⌝ }
-{
-    calls::count(refusal_writer::write_stop(reply))
-}
-
 // Lays what is sent into the reply buffer, and returns how many bytes that are; into a buffer under 259 bytes nothing.
-pub fn put(
-    out: Out,
-    announce: Announce,
-    name: &[u8; 64],
-    named: usize,
-    size: u32,
-    block: usize,
-    file: &[u8],
-    reply: &mut [u8],
-) -> usize
-    ensures { λ r. ⌜ (r ≡ length (laidOf (now (reply .entry)) (framesOf (settingsBy announce (take named (now (name .entry))) size block) (now (file .entry)) out))) × (now (reply .exit) ≡ over 0 (laidOf (now (reply .entry)) (framesOf (settingsBy announce (take named (now (name .entry))) size block) (now (file .entry)) out)) (now (reply .entry))) ⌝ }
+pub fn put(core: SenderCore, name: [u8; 64], out: Out, file: &[u8], reply: &mut [u8]) -> usize
+    ensures { λ r. ⌜ Laid (laidOf (now (reply .entry)) (framesOf (settingsBy core name) (now (file .entry)) out)) (now (reply .entry)) (now (reply .exit)) r ⌝ }
 {
     if reply.len() < calls::LEAST_REPLY {
         return 0;
     }
     match out {
         Out::Nothing => 0,
-        Out::Line => put_line(announce, name, named, size, file, reply),
-        Out::Data { from } => put_data(block, file, from, reply),
-        Out::Stop => put_stop(reply),
+        Out::Line => put_line(core, name, file, reply),
+        Out::Data { from } => buffers::append_bytes(reply, 0, next(core.block, file, from)),
+        Out::Stop => calls::count(refusal_writer::write_stop(reply)),
     }
 }

@@ -10,15 +10,15 @@ use Rattle.fields.specs.Pick.{pick}
 use Rattle.fields.proofs.Buffer.{over-none}
 use Rattle.calls.specs.declared.Status.{Status}
 use Rattle.calls.specs.declared.Status.the-variants.{Taken, Over, LongFrame, SmallReply, WrongLength}
-use Rattle.calls.specs.Checks.{checkOf, isTaken}
+use Rattle.calls.specs.Checks.{isTaken}
 use Rattle.calls.proofs.Laws.{taken-room}
-use Rattle.bin.specs.declared.SenderState.{SenderState}
-use Rattle.bin.specs.Steps.{SenderMove, senderEnded}
+use Rattle.bin.specs.Steps.{SenderMove}
 use Rattle.bin_frames.specs.Frames.{laidOf}
-use Rattle.bin_sending.specs.Sending.{Done, refuses, ifTaken}
+use Rattle.bin_sending.specs.declared.Event.{Event}
+use Rattle.bin_sending.specs.Sending.{Done, refuses, ifTaken, moveBy}
 use Rattle.bin_sender.specs.declared.Sender.{Sender}
-use Rattle.bin_sender.specs.Sender.{SenderAfter, statusOf, replied, refusedCall, unlessRefused}
-use Rattle.bin_sender.specs.Acts.{answeredBy}
+use Rattle.bin_sender.specs.Sender.{settingsOf, statusOf, replied, refusedCall, unlessRefused}
+use Rattle.bin_sender.specs.Acts.{calledBy, answeredBy}
 
 module _ (m : Sender) (reply : List ℕ) where
   -- where nothing is sent, nothing is laid down
@@ -29,7 +29,7 @@ module _ (m : Sender) (reply : List ℕ) where
       go true = refl
       go false = refl
 
-  refused : (s : Status) → refusedCall m s reply ≡ answeredBy m (refuses s (m .core .state)) reply
+  refused : (s : Status) → refusedCall m s reply ≡ answeredBy m (refuses (m .core .state) s) reply
   refused s = rw (laid-none, over-none reply)
 
   by-status : (a : SenderMove) (s : Status) → (isTaken s ≡ true → 259 ≤ length reply)
@@ -40,22 +40,10 @@ module _ (m : Sender) (reply : List ℕ) where
   by-status a SmallReply h = refused SmallReply
   by-status a WrongLength h = refused WrongLength
 
--- it decided d, by the status of the call and the move a, and answered x
-called : (m : Sender) (frame : ℕ) (file reply : List ℕ) (a : SenderMove) (d : Done) (x : SenderAfter)
-    → d ≡ ifTaken (statusOf m frame file reply) (m .core .state) a → answeredBy m d reply ≡ x
-    → unlessRefused (statusOf m frame file reply) m reply (replied m a reply) ≡ x
-called m frame file reply a d x e w =
-    by-status m reply a (statusOf m frame file reply)
-    (λ h. taken-room (senderEnded (m .core .state)) (length reply) frame (length file) (m .core .size) h .0)
-    ∙ ap (λ (y : Done). answeredBy m y reply) (sym e) ∙ w
-
--- the same by the state s that was read
-pub called-at : (m : Sender) (frame : ℕ) (file reply : List ℕ) (move : SenderState → SenderMove) (s : SenderState) (d : Done) (x : SenderAfter)
-    → s ≡ m .core .state
-    → d ≡ ifTaken (checkOf (senderEnded s) (length reply) frame (length file) (m .core .size)) s (move s) → answeredBy m d reply ≡ x
-    → unlessRefused (statusOf m frame file reply) m reply (replied m (move (m .core .state)) reply) ≡ x
-called-at m frame file reply move s d x h e w =
-    called m frame file reply (move (m .core .state)) d x
-    (e
-    ∙ ap (λ (y : SenderState). ifTaken (checkOf (senderEnded y) (length reply) frame (length file) (m .core .size)) y (move y)) h)
-    w
+-- the code decided d
+pub called : (event : Event) (m : Sender) (frame file reply : List ℕ) (d : Done)
+    → d ≡ ifTaken (statusOf m (length frame) file reply) (m .core .state) (moveBy (settingsOf m) file (m .core .state) frame event)
+    → calledBy event m frame file reply ≡ answeredBy m d reply
+called event m frame file reply d e =
+    by-status m reply _ (statusOf m (length frame) file reply) (λ h. taken-room _ (length reply) (length frame) (length file) (m .core .size) h .0)
+    ∙ ap (λ (y : Done). answeredBy m y reply) (sym e)

@@ -1,23 +1,16 @@
 // The #BIN# sender.
 use bin::Announce;
 use bin::SenderState;
-use bin_sending::Step;
+use bin_frames::SenderCore;
+use bin_sending::Event;
 use calls::Outcome;
 use calls::Status;
 ghost use mathlib.Core.Path.{_≡_};
-ghost use Rattle.bin_sending.specs.Sending.{doneBy};
-ghost use Rattle.bin_sender.specs.Sender.{senderWith, refusedBegin, within as withinOf, begin as beginOf, beginBasic, settingsOf, transmit as transmitOf, receive as receiveOf, timeout as timeoutOf, cancel as cancelOf};
-ghost use Rattle.bin_sender.specs.Acts.{answeredBy};
-
-pub struct SenderCore {
-    state: SenderState,
-    announce: Announce,
-    // How long the name is.
-    named: usize,
-    // The file's length.
-    size: u32,
-    block: usize,
-}
+ghost use mathlib.Core.List.{List, []};
+ghost use Prim.Native.Nat.{ℕ};
+ghost use lib.ListN.{length};
+ghost use Rattle.bin_sender.specs.Sender.{refusedBegin, begin as beginOf, beginBasic, transmit as transmitOf, receive as receiveOf, timeout as timeoutOf, cancel as cancelOf};
+ghost use Rattle.bin_sender.specs.Acts.{begunBy, calledBy};
 
 pub struct Sender {
     name: [u8; 64],
@@ -31,83 +24,56 @@ pub struct SenderAnswer {
     pub sent: usize,
 }
 
-// ---- The beginnings
-
-// The name stands at the front of the array.
-fn sender_with(
-    state: SenderState,
-    announce: Announce,
-    name: &[u8],
-    size: u32,
-    block: usize,
-) -> Sender
-    ensures { λ r. ⌜ r ≡ senderWith state announce (now (name .entry)) size block ⌝ }
-{
-    let mut own = [0; 64];
-    buffers::append_bytes(&mut own, 0, name);
-    Sender {
-        name: own,
-        core: SenderCore {
-            state,
-            announce,
-            named: name.len(),
-            size,
-            block,
-        },
-    }
-}
-
 // A sender that has ended before it began.
-fn refused_begin(outcome: Outcome) -> Sender
-    ensures { λ r. ⌜ r ≡ refusedBegin outcome ⌝ }
+fn refused(outcome: Outcome) -> SenderCore
+    ensures { λ r. ⌜ r ≡ refusedBegin outcome .core ⌝ }
 {
-    sender_with(SenderState::Ended { outcome }, Announce::Basic, b"", 0, 0)
+    SenderCore {
+        state: SenderState::Ended { outcome },
+        announce: Announce::Basic,
+        named: 0,
+        size: 0,
+        block: 0,
+    }
 }
 
-// The limits of size and block.
-fn within(announce: Announce, name: &[u8], size: usize, block: usize) -> Sender
-    ensures { λ r. ⌜ r ≡ withinOf announce (now (name .entry)) size block ⌝ }
+// The limits of name, size and block; good says whether the name is within them.
+fn begins(good: bool, announce: Announce, named: usize, size: usize, block: usize) -> SenderCore
+    ensures { λ r. ⌜ ((name : List ℕ) → length name ≡ named → r ≡ begunBy good announce name size block .core) ⌝ }
 {
-    if Sender::LARGEST < size {
-        return refused_begin(Outcome::LengthOutside);
+    if good {
+        if Sender::LARGEST < size {
+            return refused(Outcome::LengthOutside);
+        }
+        if block < 1 {
+            return refused(Outcome::BlockOutside);
+        }
+        if Sender::BLOCK < block {
+            return refused(Outcome::BlockOutside);
+        }
+        return SenderCore {
+            state: SenderState::Start,
+            announce,
+            named,
+            size: size as u32,
+            block,
+        };
     }
-    if block < 1 {
-        return refused_begin(Outcome::BlockOutside);
-    }
-    if Sender::BLOCK < block {
-        return refused_begin(Outcome::BlockOutside);
-    }
-    sender_with(SenderState::Start, announce, name, size as u32, block)
+    refused(Outcome::NameOutside)
 }
 
-// ---- The calls
-
-fn announced(core: SenderCore) -> Announce
-    ensures { λ r. ⌜ r ≡ core .announce ⌝ }
+// What a call answers: it decides, and lays what is sent into the reply buffer.
+fn called(m: Sender, event: Event, frame: &[u8], file: &[u8], reply: &mut [u8]) -> SenderAnswer
+    ensures { λ r. ⌜ calledBy event m (now (frame .entry)) (now (file .entry)) (now (reply .entry)) ≡ record { answer = r; reply = now (reply .exit) } ⌝ }
 {
-    core.announce
-}
-
-// The answer of a call: the sender in the state of the step, whose frame stands in the reply buffer.
-fn answered(m: Sender, step: Step, file: &[u8], reply: &mut [u8]) -> SenderAnswer
-    ensures { λ r. ⌜ answeredBy m (doneBy (settingsOf m) (now (file .entry)) step) (now (reply .entry)) ≡ record { answer = r; reply = now (reply .exit) } ⌝ }
-{
+    let name = m.name;
     let core = m.core;
     let announce = core.announce;
-    let name = m.name;
+    let step = bin_sending::decides(core, event, frame, file, reply.len());
     let status = step.status;
     let state = step.state;
     let out = step.out;
-    let sent = bin_frames::put(
-        out,
-        announce,
-        &name,
-        core.named,
-        core.size,
-        core.block,
-        file,
-        reply,
-    );
+    let sent = bin_frames::put(core, name, out, file, reply);
     SenderAnswer {
         sender: Sender {
             name,
@@ -124,6 +90,13 @@ fn answered(m: Sender, step: Step, file: &[u8], reply: &mut [u8]) -> SenderAnswe
     }
 }
 
+// A call with which no frame comes.
+fn settled(m: Sender, event: Event, file: &[u8], reply: &mut [u8]) -> SenderAnswer
+    ensures { λ r. ⌜ calledBy event m [] (now (file .entry)) (now (reply .entry)) ≡ record { answer = r; reply = now (reply .exit) } ⌝ }
+{
+    called(m, event, b"", file, reply)
+}
+
 impl Sender {
     // The largest file.
     pub const LARGEST: usize = 99_999_999;
@@ -136,17 +109,21 @@ impl Sender {
     pub fn begin(name: &[u8], size: usize, block: usize, stamp: u32, resumes: bool) -> Self
         ensures { λ r. ⌜ r ≡ beginOf (now (name .entry)) size block stamp resumes ⌝ }
     {
-        if names::is_name(name) {
-            return within(Announce::Extended { stamp, resumes }, name, size, block);
-        }
-        refused_begin(Outcome::NameOutside)
+        let announce = Announce::Extended { stamp, resumes };
+        let core = begins(names::is_name(name), announce, name.len(), size, block);
+        let mut own = [0; 64];
+        buffers::append_bytes(&mut own, 0, fields::part(name, 0, core.named));
+        Sender { name: own, core }
     }
 
     // A sender of a basic transfer, which has no name.
     pub fn begin_basic(size: usize, block: usize) -> Self
         ensures { λ r. ⌜ r ≡ beginBasic size block ⌝ }
     {
-        within(Announce::Basic, b"", size, block)
+        Sender {
+            name: [0; 64],
+            core: begins(true, Announce::Basic, 0, size, block),
+        }
     }
 
     // Where the sender stands.
@@ -161,54 +138,29 @@ impl Sender {
     pub fn transmit(self, file: &[u8], reply: &mut [u8]) -> SenderAnswer
         ensures { λ r. ⌜ transmitOf self (now (file .entry)) (now (reply .entry)) ≡ record { answer = r; reply = now (reply .exit) } ⌝ }
     {
-        let state = self.state();
-        let step = bin_sending::transmits(
-            state,
-            self.core.size,
-            self.core.block,
-            file,
-            reply.len(),
-        );
-        answered(self, step, file, reply)
+        settled(self, Event::Leave, file, reply)
     }
 
     // A frame has arrived.
     pub fn receive(self, frame: &[u8], file: &[u8], reply: &mut [u8]) -> SenderAnswer
         ensures { λ r. ⌜ receiveOf self (now (frame .entry)) (now (file .entry)) (now (reply .entry)) ≡ record { answer = r; reply = now (reply .exit) } ⌝ }
     {
-        let state = self.state();
-        let announce = announced(self.core);
-        let step = bin_sending::receives(state, announce, self.core.size, frame, file, reply.len());
-        answered(self, step, file, reply)
+        called(self, Event::Take, frame, file, reply)
     }
 
     // The timer ran out.
     pub fn timeout(self, file: &[u8], reply: &mut [u8]) -> SenderAnswer
         ensures { λ r. ⌜ timeoutOf self (now (file .entry)) (now (reply .entry)) ≡ record { answer = r; reply = now (reply .exit) } ⌝ }
     {
-        let state = self.state();
-        let step = bin_sending::breaks_off(
-            Outcome::TimedOut,
-            state,
-            self.core.size,
-            file.len(),
-            reply.len(),
-        );
-        answered(self, step, file, reply)
+        let outcome = Outcome::TimedOut;
+        settled(self, Event::Fail { outcome }, file, reply)
     }
 
     // The operator's stop.
     pub fn cancel(self, file: &[u8], reply: &mut [u8]) -> SenderAnswer
         ensures { λ r. ⌜ cancelOf self (now (file .entry)) (now (reply .entry)) ≡ record { answer = r; reply = now (reply .exit) } ⌝ }
     {
-        let state = self.state();
-        let step = bin_sending::breaks_off(
-            Outcome::Stopped,
-            state,
-            self.core.size,
-            file.len(),
-            reply.len(),
-        );
-        answered(self, step, file, reply)
+        let outcome = Outcome::Stopped;
+        settled(self, Event::Fail { outcome }, file, reply)
     }
 }

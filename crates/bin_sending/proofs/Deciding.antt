@@ -1,22 +1,24 @@
 -- What a sender does, one law for each case. Assumes nothing.
 use mathlib.Core.Path.{_≡_, refl, sym, ap, _∙_}
+use mathlib.Core.Bool.{Bool, true, false}
 use mathlib.Core.List.{List, [], _∷_}
 use Prim.Native.Nat.{ℕ, _+_}
 use types.Run.{OneOf, miss}
 use denote.Enum.Declared.{tagOf}
 use native.Mathlib.Omega.{arith}
 use lib.ListN.{length, drop}
-use Rattle.lines.specs.Frame.{frameOf}
+use Rattle.fields.specs.Lists.{same}
+use Rattle.lines.specs.Frame.{starts, stopFrame, frameOf}
 use Rattle.lines.specs.Element.{contentOf}
 use Rattle.lines.specs.declared.Frame.{Frame}
 use Rattle.lines.specs.declared.Frame.the-variants.{Basic, Extended, MalformedLine, OK, OKName, OKKept, MalformedOK, NO, Stop as StopFrame, Display, Other}
 use Rattle.lines.proofs.Frame.{the-type as frame-type}
-use Rattle.calls.specs.declared.Outcome.{Outcome}
+use Rattle.calls.specs.declared.Outcome.the-variants.{Cancelled}
 use Rattle.calls.specs.declared.Status.the-variants.{Taken}
 use Rattle.bin.specs.declared.SenderState.{SenderState}
 use Rattle.bin.specs.declared.SenderState.the-variants.{Start, Wait, Send, Ended}
 use Rattle.bin.proofs.SenderState.{the-type}
-use Rattle.bin.specs.Steps.{SenderSettings, SenderMove, cut, heard, goes, stops, sendsFrom, senderLeaves, senderHears, senderSends, senderTakes, senderFails}
+use Rattle.bin.specs.Steps.{SenderSettings, SenderMove, cut, heard, goes, sendsFrom, senderLeaves, senderHears, senderSends, senderTakes, senderEnded}
 use Rattle.bin_frames.specs.declared.Out.the-variants.{Nothing, Line, Data}
 use Rattle.bin_sending.specs.declared.Step.{Step}
 use Rattle.bin_sending.specs.Sending.{doneBy, does}
@@ -36,10 +38,10 @@ module _ (s : SenderSettings) (file : List ℕ) where
   unfolding senderLeaves
   leaves-start st e = rw e
 
-  pub leaves-send : (n : ℕ) (r : SenderState) (frame : List ℕ) → frame ≡ cut (s .block) (drop n file) → r ≡ sendsFrom file (n + length frame)
-      → doneBy s file (record { status = Taken; state = r; out = Data n }) ≡ does (senderLeaves s file (Send n))
+  pub leaves-send : (st r : SenderState) (n : ℕ) (frame : List ℕ) → st ≡ Send n → frame ≡ cut (s .block) (drop n file)
+      → r ≡ sendsFrom file (n + length frame) → doneBy s file (record { status = Taken; state = r; out = Data n }) ≡ does (senderLeaves s file st)
   unfolding senderLeaves
-  leaves-send n r frame f q = rw (q, f)
+  leaves-send st r n frame e f q = rw (e, q, f)
 
   pub leaves-none : (st : SenderState) → OneOf (1 ∷ 3 ∷ []) (tagOf the-type st) → goes st [] ≡ senderLeaves s file st
   unfolding senderLeaves
@@ -84,25 +86,25 @@ module _ (s : SenderSettings) (file : List ℕ) where
     hears-none (Display p) k = refl
     hears-none Other k = refl
 
-  -- ---- a frame
+  -- ---- a frame: an empty one is no stop frame, and says nothing
 
   module _ (st : SenderState) where
-    pub takes-nothing : (f : List ℕ) → length f ≡ 0 → goes st [] ≡ senderTakes s file st f
-    unfolding senderTakes
-    takes-nothing [] h = refl
-    takes-nothing (x ∷ f) h = absurd (omega arith)
-
-    pub takes-wait : (f : List ℕ) (t : Step) → (length f ≡ 0 → ⊥) → st ≡ Wait → doneBy s file t ≡ does (senderHears s file (heard f))
+    pub takes-wait : (f : List ℕ) (t : Step) → st ≡ Wait → doneBy s file t ≡ does (senderHears s file (heard f))
         → doneBy s file t ≡ does (senderTakes s file st f)
-    unfolding senderTakes
-    takes-wait [] t h e q = absurd (h refl)
-    takes-wait (x ∷ f) t h e q = q ∙ rw e
+    unfolding senderTakes senderHears heard contentOf frameOf starts same
+    takes-wait [] t e q = q ∙ rw e
+    takes-wait (x ∷ f) t e q = q ∙ rw e
 
-    pub takes-send : (n : ℕ) (f : List ℕ) (t : Step) → (length f ≡ 0 → ⊥) → st ≡ Send n → doneBy s file t ≡ does (senderSends n f)
-        → doneBy s file t ≡ does (senderTakes s file st f)
-    unfolding senderTakes
-    takes-send n [] t h e q = absurd (h refl)
-    takes-send n (x ∷ f) t h e q = q ∙ rw e
+    module _ (n : ℕ) (b : Bool) (e : st ≡ Send n) where
+      pub takes-stop : (f : List ℕ) → b ≡ same stopFrame f → b ≡ true → goes (Ended Cancelled) [] ≡ senderTakes s file st f
+      unfolding senderTakes senderSends same
+      takes-stop [] q h = let z : _≡_ {A = ℕ} 0 1 = cc in absurd (omega arith)
+      takes-stop (x ∷ f) q h = let d : same stopFrame (x ∷ f) ≡ true = sym q ∙ h in rw (e, d)
+
+      pub takes-more : (f : List ℕ) → b ≡ same stopFrame f → b ≡ false → goes st [] ≡ senderTakes s file st f
+      unfolding senderTakes senderSends
+      takes-more [] q h = refl
+      takes-more (x ∷ f) q h = let d : same stopFrame (x ∷ f) ≡ false = sym q ∙ h in rw (e, d)
 
   pub takes-none : (st : SenderState) (f : List ℕ) → OneOf (0 ∷ 3 ∷ []) (tagOf the-type st) → goes st [] ≡ senderTakes s file st f
   unfolding senderTakes
@@ -113,15 +115,10 @@ module _ (s : SenderSettings) (file : List ℕ) where
   takes-none (Ended o) [] k = refl
   takes-none (Ended o) (x ∷ f) k = refl
 
--- ---- timer or operator's stop
+-- ---- the end
 
-pub fails-stops : (o : Outcome) (st : SenderState) → OneOf (0 ∷ 1 ∷ 2 ∷ []) (tagOf the-type st) → stops o ≡ senderFails o st
-unfolding senderFails
-fails-stops o Start k = refl
-fails-stops o Wait k = refl
-fails-stops o (Send n) k = refl
-fails-stops o (Ended x) k = absurd (miss (0 ∷ 1 ∷ 2 ∷ []) 3 tt k)
-
-pub fails-ended : (o x : Outcome) (st : SenderState) → st ≡ Ended x → goes st [] ≡ senderFails o st
-unfolding senderFails
-fails-ended o x st e = rw e
+pub not-ended : (st : SenderState) → OneOf (0 ∷ 1 ∷ 2 ∷ []) (tagOf the-type st) → false ≡ senderEnded st
+not-ended Start k = refl
+not-ended Wait k = refl
+not-ended (Send n) k = refl
+not-ended (Ended o) k = absurd (miss (0 ∷ 1 ∷ 2 ∷ []) 3 tt k)

@@ -2,10 +2,13 @@
 use Prim.Native.Nat.{ℕ}
 use mathlib.Core.List.{List, []}
 use Rattle.calls.specs.declared.Status.{Status}
-use Rattle.calls.specs.declared.Status.the-variants.{Taken, Over, LongFrame, SmallReply, WrongLength}
+use Rattle.calls.specs.declared.Status.the-variants.{Taken}
+use Rattle.calls.specs.Checks.{unless}
 use Rattle.bin.specs.declared.SenderState.{SenderState}
-use Rattle.bin.specs.Steps.{SenderSettings, SenderMove, goes}
+use Rattle.bin.specs.Steps.{SenderSettings, SenderMove, goes, senderLeaves, senderTakes, senderFails}
 use Rattle.bin_frames.specs.Frames.{framesOf}
+use Rattle.bin_sending.specs.declared.Event.{Event}
+use Rattle.bin_sending.specs.declared.Event.the-variants.{Leave, Take, Fail}
 use Rattle.bin_sending.specs.declared.Step.{Step}
 
 -- what a call does: whether it is taken, and the move
@@ -21,13 +24,15 @@ abbrev pub does : SenderMove → Done
 does a = record { status = Taken; made = a }
 
 -- a call that is refused changes nothing and sends nothing
-abbrev pub refuses : Status → SenderState → Done
-refuses s st = record { status = s; made = goes st [] }
+abbrev pub refuses : SenderState → Status → Done
+refuses st s = record { status = s; made = goes st [] }
 
 -- by the status of the call
 abbrev pub ifTaken : Status → SenderState → SenderMove → Done
-ifTaken Taken st a = does a
-ifTaken Over st a = refuses Over st
-ifTaken LongFrame st a = refuses LongFrame st
-ifTaken SmallReply st a = refuses SmallReply st
-ifTaken WrongLength st a = refuses WrongLength st
+ifTaken s st a = unless s (refuses st) (does a)
+
+-- what an event does, with the frame that came
+abbrev pub moveBy : SenderSettings → List ℕ → SenderState → List ℕ → Event → SenderMove
+moveBy s file st frame Leave = senderLeaves s file st
+moveBy s file st frame Take = senderTakes s file st frame
+moveBy s file st frame (Fail o) = senderFails o st

@@ -1,7 +1,8 @@
-// What a #BIN# sender decides, on numbers and enums.
+// What a #BIN# sender decides, on its core and what is lent.
 use bin::Announce;
 use bin::SenderState;
 use bin_frames::Out;
+use bin_frames::SenderCore;
 use calls::Outcome;
 use calls::Status;
 use lines::Frame;
@@ -14,11 +15,21 @@ ghost use lib.Dec.{leb, eqb};
 ghost use Rattle.crc.specs.Crc.{crcOf};
 ghost use Rattle.calls.specs.declared.Status.the-variants.{Taken};
 ghost use Rattle.calls.specs.Checks.{checkOf};
-ghost use Rattle.bin.specs.declared.SenderState.the-variants.{Send, Ended};
-ghost use Rattle.bin.specs.Steps.{SenderSettings, heard, sendsFrom, announcesResume, senderEnded, senderLeaves, resumesAt, senderHears, senderSends, senderTakes, senderFails};
+ghost use Rattle.bin.specs.declared.SenderState.the-variants.{Ended};
+ghost use Rattle.bin.specs.Steps.{heard, sendsFrom, announcesResume, senderEnded, senderLeaves, resumesAt, senderHears, senderTakes};
 ghost use Rattle.bin_frames.specs.declared.Out.the-variants.{Nothing, Stop};
-ghost use Rattle.bin_frames.specs.Frames.{blockOf};
-ghost use Rattle.bin_sending.specs.Sending.{doneBy, does, ifTaken};
+ghost use Rattle.bin_frames.specs.Frames.{settingsBy};
+ghost use Rattle.bin_sending.specs.Sending.{doneBy, does, ifTaken, moveBy};
+
+// What the host brings.
+pub enum Event {
+    // A chance to send.
+    Leave,
+    // A frame has come.
+    Take,
+    // Timer or operator's stop, by the number that it ends with.
+    Fail { outcome: Outcome },
+}
 
 // What a call does: whether it is taken, the state after it, and what is sent.
 pub struct Step {
@@ -36,13 +47,6 @@ fn stays(state: SenderState) -> Step
         state,
         out: Out::Nothing,
     }
-}
-
-// The end is reached, and nothing is sent.
-fn ends(outcome: Outcome) -> Step
-    ensures { λ r. ⌜ r ≡ record { status = Taken; state = Ended outcome; out = Nothing } ⌝ }
-{
-    stays(SenderState::Ended { outcome })
 }
 
 // The stop frame is sent, and the end is reached.
@@ -69,82 +73,77 @@ fn sends_from(file: &[u8], n: usize) -> SenderState
     SenderState::Send { at: n as u32 }
 }
 
-// A leave while it sends: the next frame of the file.
-fn leaves_next(at: u32, block: usize, file: &[u8]) -> Step
+// A chance to send: the line, or the next frame of the file.
+fn leaves(core: SenderCore, file: &[u8]) -> Step
     requires { ⌜ length (now file) ≤ 4294967295 ⌝ }
-    ensures { λ r. ⌜ ((s : SenderSettings) → s .block ≡ blockOf block → doneBy s (now (file .entry)) r ≡ does (senderLeaves s (now (file .entry)) (Send at))) ⌝ }
+    ensures { λ r. ⌜ ((name : List ℕ) → doneBy (settingsBy core name) (now (file .entry)) r ≡ does (senderLeaves (settingsBy core name) (now (file .entry)) (core .state))) ⌝ }
 {
-    let from = at as usize;
-    let frame = bin_frames::next(block, file, from);
-    Step {
-        status: Status::Taken,
-        state: sends_from(file, from + frame.len()),
-        out: Out::Data { from },
-    }
-}
-
-// A chance to send (leave): the line, or the next frame of the file.
-fn leaves(state: SenderState, block: usize, file: &[u8]) -> Step
-    requires { ⌜ length (now file) ≤ 4294967295 ⌝ }
-    ensures { λ r. ⌜ ((s : SenderSettings) → s .block ≡ blockOf block → doneBy s (now (file .entry)) r ≡ does (senderLeaves s (now (file .entry)) state)) ⌝ }
-{
+    let state = core.state;
     match state {
         SenderState::Start => Step {
             status: Status::Taken,
             state: SenderState::Wait,
             out: Out::Line,
         },
-        SenderState::Send { at } => leaves_next(at, block, file),
+        SenderState::Send { at } => {
+            let from = at as usize;
+            let frame = bin_frames::next(core.block, file, from);
+            Step {
+                status: Status::Taken,
+                state: sends_from(file, from + frame.len()),
+                out: Out::Data { from },
+            }
+        }
         SenderState::Wait | SenderState::Ended { .. } => stays(state),
     }
 }
 
-// Whether `?` is sent.
-fn announces_resume(announce: Announce) -> bool
-    ensures { λ r. ⌜ r ≡ announcesResume announce ⌝ }
+// Whether a third OK fits what was announced and the file's own beginning.
+fn is_ours(core: SenderCore, file: &[u8], kept: u32, crc: u16) -> bool
+    ensures { λ r. ⌜ r ≡ (announcesResume (core .announce) && (leb kept (core .size) && eqb (crcOf (take kept (now (file .entry)))) crc)) ⌝ }
 {
+    let announce = core.announce;
     match announce {
         Announce::Basic => false,
-        Announce::Extended { stamp: _, resumes } => resumes,
-    }
-}
-
-// Whether a third OK fits what was announced and the file's own beginning.
-fn is_ours(announce: Announce, size: u32, file: &[u8], kept: u32, crc: u16) -> bool
-    ensures { λ r. ⌜ r ≡ (announcesResume announce && (leb kept size && eqb (crcOf (take kept (now (file .entry)))) crc)) ⌝ }
-{
-    if announces_resume(announce) {
-        if kept <= size {
-            return crc::crc_of(fields::part(file, 0, kept as usize)) == crc;
+        Announce::Extended { stamp: _, resumes } => {
+            if resumes {
+                if kept <= core.size {
+                    return crc::crc_of(fields::part(file, 0, kept as usize)) == crc;
+                }
+                return false;
+            }
+            false
         }
-        return false;
     }
-    false
 }
 
 // The third OK.
-fn resumes_at(announce: Announce, size: u32, file: &[u8], kept: u32, crc: u16) -> Step
+fn resumes_at(core: SenderCore, file: &[u8], kept: u32, crc: u16) -> Step
     requires { ⌜ length (now file) ≤ 4294967295 ⌝ }
-    ensures { λ r. ⌜ ((s : SenderSettings) → s .announce ≡ announce → s .size ≡ size → doneBy s (now (file .entry)) r ≡ does (resumesAt s (now (file .entry)) kept crc)) ⌝ }
+    ensures { λ r. ⌜ ((name : List ℕ) → doneBy (settingsBy core name) (now (file .entry)) r ≡ does (resumesAt (settingsBy core name) (now (file .entry)) kept crc)) ⌝ }
 {
-    if is_ours(announce, size, file, kept, crc) {
+    if is_ours(core, file, kept, crc) {
         return stays(sends_from(file, kept as usize));
     }
     stops(Outcome::NotOurs)
 }
 
 // A frame while it waits.
-fn hears(announce: Announce, size: u32, frame: &[u8], file: &[u8]) -> Step
+fn hears(core: SenderCore, frame: &[u8], file: &[u8]) -> Step
     requires { ⌜ length (now file) ≤ 4294967295 ⌝ }
-    ensures { λ r. ⌜ ((s : SenderSettings) → s .announce ≡ announce → s .size ≡ size → doneBy s (now (file .entry)) r ≡ does (senderHears s (now (file .entry)) (heard (now (frame .entry))))) ⌝ }
+    ensures { λ r. ⌜ ((name : List ℕ) → doneBy (settingsBy core name) (now (file .entry)) r ≡ does (senderHears (settingsBy core name) (now (file .entry)) (heard (now (frame .entry))))) ⌝ }
 {
     let got = line_reader::frame_of(frame);
     match got {
         Frame::OK | Frame::OKName(_) => stays(sends_from(file, 0)),
-        Frame::OKKept(k) => resumes_at(announce, size, file, k.kept, k.crc),
+        Frame::OKKept(k) => resumes_at(core, file, k.kept, k.crc),
         Frame::MalformedOK => stops(Outcome::Malformed),
-        Frame::NO(_) => ends(Outcome::Refused),
-        Frame::Stop => ends(Outcome::Cancelled),
+        Frame::NO(_) => stays(SenderState::Ended {
+            outcome: Outcome::Refused,
+        }),
+        Frame::Stop => stays(SenderState::Ended {
+            outcome: Outcome::Cancelled,
+        }),
         Frame::Basic(_)
         | Frame::Extended(_)
         | Frame::MalformedLine
@@ -153,38 +152,23 @@ fn hears(announce: Announce, size: u32, frame: &[u8], file: &[u8]) -> Step
     }
 }
 
-// A frame while it sends.
-fn sends(at: u32, frame: &[u8]) -> Step
-    ensures { λ r. ⌜ ((s : SenderSettings) (file : List ℕ) → doneBy s file r ≡ does (senderSends at (now (frame .entry)))) ⌝ }
-{
-    if lines::is_stop(frame) {
-        return ends(Outcome::Cancelled);
-    }
-    stays(SenderState::Send { at })
-}
-
-// A frame, whatever the state.
-fn takes(state: SenderState, announce: Announce, size: u32, frame: &[u8], file: &[u8]) -> Step
+// A frame, whatever the state; an empty one is no stop frame, and says nothing while it waits.
+fn takes(core: SenderCore, frame: &[u8], file: &[u8]) -> Step
     requires { ⌜ length (now file) ≤ 4294967295 ⌝ }
-    ensures { λ r. ⌜ ((s : SenderSettings) → s .announce ≡ announce → s .size ≡ size → doneBy s (now (file .entry)) r ≡ does (senderTakes s (now (file .entry)) state (now (frame .entry)))) ⌝ }
+    ensures { λ r. ⌜ ((name : List ℕ) → doneBy (settingsBy core name) (now (file .entry)) r ≡ does (senderTakes (settingsBy core name) (now (file .entry)) (core .state) (now (frame .entry)))) ⌝ }
 {
-    if frame.len() == 0 {
-        return stays(state);
-    }
+    let state = core.state;
     match state {
-        SenderState::Wait => hears(announce, size, frame, file),
-        SenderState::Send { at } => sends(at, frame),
+        SenderState::Wait => hears(core, frame, file),
+        SenderState::Send { .. } => {
+            if lines::is_stop(frame) {
+                return stays(SenderState::Ended {
+                    outcome: Outcome::Cancelled,
+                });
+            }
+            stays(state)
+        }
         SenderState::Start | SenderState::Ended { .. } => stays(state),
-    }
-}
-
-// What timer and operator's stop do.
-fn fails(outcome: Outcome, state: SenderState) -> Step
-    ensures { λ r. ⌜ ((s : SenderSettings) (file : List ℕ) → doneBy s file r ≡ does (senderFails outcome state)) ⌝ }
-{
-    match state {
-        SenderState::Start | SenderState::Wait | SenderState::Send { .. } => stops(outcome),
-        SenderState::Ended { .. } => stays(state),
     }
 }
 
@@ -192,71 +176,27 @@ fn fails(outcome: Outcome, state: SenderState) -> Step
 fn is_ended(state: SenderState) -> bool
     ensures { λ r. ⌜ r ≡ senderEnded state ⌝ }
 {
-    match state {
-        SenderState::Start => false,
-        SenderState::Wait => false,
-        SenderState::Send { at: _ } => false,
-        SenderState::Ended { outcome: _ } => true,
+    if let SenderState::Ended { .. } = state {
+        true
+    } else {
+        false
     }
 }
 
-// The checks of a call.
-fn check(state: SenderState, size: u32, frame: usize, file: usize, reply: usize) -> Status
-    ensures { λ r. ⌜ r ≡ checkOf (senderEnded state) reply frame file size ⌝ }
+// What a call does, with a reply buffer of so many bytes; where no frame has come, the frame is empty. A refused call changes nothing.
+pub fn decides(core: SenderCore, event: Event, frame: &[u8], file: &[u8], reply: usize) -> Step
+    ensures { λ r. ⌜ ((name : List ℕ) → doneBy (settingsBy core name) (now (file .entry)) r ≡ ifTaken (checkOf (senderEnded (core .state)) reply (length (now (frame .entry))) (length (now (file .entry))) (core .size)) (core .state) (moveBy (settingsBy core name) (now (file .entry)) (core .state) (now (frame .entry)) event)) ⌝ }
 {
-    calls::check(is_ended(state), reply, frame, file, size as usize)
-}
-
-// A refused call changes nothing.
-fn refused(state: SenderState, status: Status) -> Step
-    ensures { λ r. ⌜ r ≡ record { status = status; state = state; out = Nothing } ⌝ }
-{
+    let state = core.state;
+    let size = core.size as usize;
+    let status = calls::check(is_ended(state), reply, frame.len(), file.len(), size);
+    if calls::is_taken(status) {
+        return match event {
+            Event::Leave => leaves(core, file),
+            Event::Take => takes(core, frame, file),
+            Event::Fail { outcome } => stops(outcome),
+        };
+    }
     let out = Out::Nothing;
     Step { status, state, out }
-}
-
-// A chance to send, with a reply buffer of so many bytes.
-pub fn transmits(state: SenderState, size: u32, block: usize, file: &[u8], reply: usize) -> Step
-    ensures { λ r. ⌜ ((s : SenderSettings) → s .block ≡ blockOf block → doneBy s (now (file .entry)) r ≡ ifTaken (checkOf (senderEnded state) reply 0 (length (now (file .entry))) size) state (senderLeaves s (now (file .entry)) state)) ⌝ }
-{
-    let status = check(state, size, 0, file.len(), reply);
-    if calls::is_taken(status) {
-        return leaves(state, block, file);
-    }
-    refused(state, status)
-}
-
-// A frame has arrived.
-pub fn receives(
-    state: SenderState,
-    announce: Announce,
-    size: u32,
-    frame: &[u8],
-    file: &[u8],
-    reply: usize,
-) -> Step
-    ensures { λ r. ⌜ ((s : SenderSettings) → s .announce ≡ announce → s .size ≡ size → doneBy s (now (file .entry)) r ≡ ifTaken (checkOf (senderEnded state) reply (length (now (frame .entry))) (length (now (file .entry))) size) state (senderTakes s (now (file .entry)) state (now (frame .entry)))) ⌝ }
-{
-    let status = check(state, size, frame.len(), file.len(), reply);
-    if calls::is_taken(status) {
-        return takes(state, announce, size, frame, file);
-    }
-    refused(state, status)
-}
-
-// Timer or operator's stop.
-pub fn breaks_off(
-    outcome: Outcome,
-    state: SenderState,
-    size: u32,
-    file: usize,
-    reply: usize,
-) -> Step
-    ensures { λ r. ⌜ ((s : SenderSettings) (l : List ℕ) → doneBy s l r ≡ ifTaken (checkOf (senderEnded state) reply 0 file size) state (senderFails outcome state)) ⌝ }
-{
-    let status = check(state, size, 0, file, reply);
-    if calls::is_taken(status) {
-        return fails(outcome, state);
-    }
-    refused(state, status)
 }

@@ -1,17 +1,23 @@
 -- What is sent stands at the front of the reply buffer. Assumes nothing.
-use mathlib.Core.Path.{ap}
-use lib.ListN.{take}
+use mathlib.Core.Path.{refl, ap}
+use mathlib.Core.List.{List}
+use Prim.Native.Nat.{ℕ}
 use denote.Ref.{now}
 use Rattle.bin_frames.specs.Frames.{settingsBy, framesOf}
-use Rattle.bin_frames.proofs.Laying.{put-small, put-nothing, put-one}
+use Rattle.bin_frames.specs.declared.Out.{Out}
+use Rattle.bin_frames.proofs.Laying.{wrote, copied, put-small, put-nothing, put-one}
 use borrow.Author.Needs.{needs}
 use Rattle.bin_frames.proofs.put.Statement.{statement}
 use Rattle.bin_frames.proofs.put.Tie as tie
 
+-- the frames that are sent with out
+abbrev frames : (c : tie.Start) → Out → List (List ℕ)
+frames c = framesOf (settingsBy (c .args .core) (c .args .name)) (now (c .args .file))
+
 returns : tie.Need-returns
 returns c =
-    let a = c .before .before .before .args in
-    put-small (framesOf (settingsBy (a .announce) (take (a .named) (now (a .name))) (a .size) (a .block)) (now (a .file)) (a .out)) (now (a .reply)) (c .if1 .taken)
+    let s = c .before .before .before in
+    put-small (frames s (s .args .out)) (now (s .args .reply)) (c .if1 .taken)
 
 enum-told : tie.Need-enum-told
 enum-told c = search needs
@@ -25,43 +31,51 @@ put-line-requires c κs = search needs
 enum-known-out : tie.Need-enum-known-out
 enum-known-out c = search needs
 
-put-data-requires : tie.Need-put-data-requires
-put-data-requires c κs = search needs
+next-requires : tie.Need-next-requires
+next-requires c κs = search needs
+
+append-bytes-requires : tie.Need-append-bytes-requires
+append-bytes-requires c κs = search needs
 
 enum-told-3 : tie.Need-enum-told-3
 enum-told-3 c = search needs
 
-put-stop-requires : tie.Need-put-stop-requires
-put-stop-requires c κs = search needs
+write-stop-requires : tie.Need-write-stop-requires
+write-stop-requires c κs = search needs
+
+count-requires : tie.Need-count-requires
+count-requires c κs = search needs
 
 returns-2 : tie.Need-returns-2
 returns-2 c =
-    let a = c .before .before .before .before .before .args in
-    put-nothing (framesOf (settingsBy (a .announce) (take (a .named) (now (a .name))) (a .size) (a .block)) (now (a .file)) (a .out)) (now (a .reply)) (c .before .before .if1 .left) (ap (framesOf (settingsBy (a .announce) (take (a .named) (now (a .name))) (a .size) (a .block)) (now (a .file))) (c .enum-told .given .1))
+    let s = c .before .before .before .before .before in
+    put-nothing (frames s (s .args .out)) (now (s .args .reply)) (c .before .before .if1 .left) (ap (frames s) (c .enum-told .given .1))
 
 same-length : tie.Need-same-length
 same-length c = search needs
 
 returns-3 : tie.Need-returns-3
 returns-3 c =
-    let a = c .before .before .before .before .before .before .before .before .before .args in
-    put-one (framesOf (settingsBy (a .announce) (take (a .named) (now (a .name))) (a .size) (a .block)) (now (a .file)) (a .out)) (now (a .reply)) (c .before .before .before .before .before .before .if1 .left) _ _ _ (ap (framesOf (settingsBy (a .announce) (take (a .named) (now (a .name))) (a .size) (a .block)) (now (a .file))) (c .before .before .before .before .enum-told2 .given .1)) (c .before .before .put-line .ensures (a .block))
+    let s = c .before .before .before .before .before .before .before .before .before in
+    put-one (frames s (s .args .out)) (now (s .args .reply)) (c .before .before .before .before .before .before .if1 .left) _ _ _ (ap (frames s) (c .before .before .before .before .enum-told2 .given .1)) (c .before .before .put-line .ensures)
 
 same-length-2 : tie.Need-same-length-2
 same-length-2 c = search needs
 
 returns-4 : tie.Need-returns-4
 returns-4 c =
-    let a = c .before .before .before .before .before .before .before .before .before .before .args in
-    put-one (framesOf (settingsBy (a .announce) (take (a .named) (now (a .name))) (a .size) (a .block)) (now (a .file)) (a .out)) (now (a .reply)) (c .before .before .before .before .before .before .before .if1 .left) _ _ _ (ap (framesOf (settingsBy (a .announce) (take (a .named) (now (a .name))) (a .size) (a .block)) (now (a .file))) (c .before .before .before .before .before .out .given .1)) (c .before .before .put-data .ensures)
+    let s = c .before .before .before .before .before .before .before .before .before .before .before in
+    let room = c .before .before .before .before .before .before .before .before .if1 .left in
+    put-one (frames s (s .args .out)) (now (s .args .reply)) room _ _ _ (ap (frames s) (c .before .before .before .before .before .before .out .given .1)) (copied (s .args .core .block) _ _ _ _ _ (c .before .before .before .next .ensures) room (c .before .before .append-bytes .ensures))
 
 same-length-3 : tie.Need-same-length-3
 same-length-3 c = search needs
 
 returns-5 : tie.Need-returns-5
 returns-5 c =
-    let a = c .before .before .before .before .before .before .before .before .before .args in
-    put-one (framesOf (settingsBy (a .announce) (take (a .named) (now (a .name))) (a .size) (a .block)) (now (a .file)) (a .out)) (now (a .reply)) (c .before .before .before .before .before .before .if1 .left) _ _ _ (ap (framesOf (settingsBy (a .announce) (take (a .named) (now (a .name))) (a .size) (a .block)) (now (a .file))) (c .before .before .before .before .enum-told3 .given .1)) (c .before .before .put-stop .ensures)
+    let s = c .before .before .before .before .before .before .before .before .before .before in
+    let room = c .before .before .before .before .before .before .before .if1 .left in
+    put-one (frames s (s .args .out)) (now (s .args .reply)) room _ _ _ (ap (frames s) (c .before .before .before .before .before .enum-told3 .given .1)) (wrote _ _ _ _ _ _ refl room (c .count .ensures) (c .before .before .before .write-stop .ensures))
 
 pub put-spec : {M : Type 1} → statement M
 put-spec =
@@ -72,9 +86,11 @@ put-spec =
     enum-told-2
     put-line-requires
     enum-known-out
-    put-data-requires
+    next-requires
+    append-bytes-requires
     enum-told-3
-    put-stop-requires
+    write-stop-requires
+    count-requires
     returns-2
     same-length
     returns-3

@@ -17,11 +17,14 @@ count-requires c κs = search needs
 enum-known-announce : tie.Need-enum-known-announce
 enum-known-announce c = search needs
 
-crc-of-requires : tie.Need-crc-of-requires
-crc-of-requires c κs = search needs
+slice-aggregate-all : tie.Need-slice-aggregate-all
+slice-aggregate-all c = search needs
 
 part-requires : tie.Need-part-requires
 part-requires c κs = search needs
+
+crc-of-requires : tie.Need-crc-of-requires
+crc-of-requires c κs = search needs
 
 write-line-requires : tie.Need-write-line-requires
 write-line-requires c κs = search needs
@@ -33,13 +36,17 @@ same-length : tie.Need-same-length
 same-length c = search needs
 
 returns : tie.Need-returns
-returns c = λ block. wrote _ _ _ _ _ _ (line-basic _ _ _ block (now (c .before .before .before .before .before .before .before .before .before .args .file)) (c .before .before .before .before .before .enum-told .given .1)) (c .before .before .before .before .before .before .before .before .before .pre) (c .count .ensures) (c .before .before .before .write-basic .ensures)
+returns c =
+    let s = c .before .before .before .before .before .before .before .before .before in
+    wrote _ _ _ _ _ _ (line-basic (s .args .core) _ (now (s .args .file)) (c .before .before .before .before .before .enum-told .given .1)) (s .pre) (c .count .ensures) (c .before .before .before .write-basic .ensures)
 
 same-length-2 : tie.Need-same-length-2
 same-length-2 c = search needs
 
 returns-2 : tie.Need-returns-2
-returns-2 c = λ block. wrote _ _ _ _ _ _ (line-extended _ _ _ block (now (c .before .before .before .before .before .before .before .before .before .before .before .before .before .args .file)) _ _ _ _ (c .before .before .before .before .before .before .before .before .before .announce .given .1) (c .before .before .before .before .before .before .before .crc-of .ensures) (c .before .before .before .before .before .part .ensures)) (c .before .before .before .before .before .before .before .before .before .before .before .before .before .pre) (c .count2 .ensures) (c .before .before .before .write-line .ensures)
+returns-2 c =
+    let s = c .before .before .before .before .before .before .before .before .before .before .before .before .before in
+    wrote _ _ _ _ _ _ (line-extended (s .args .core) _ (now (s .args .file)) _ _ _ _ (c .before .before .before .before .before .before .before .before .before .announce .given .1) (c .before .before .before .before .before .crc-of .ensures) (c .before .before .before .before .before .before .part .ensures)) (s .pre) (c .count2 .ensures) (c .before .before .before .write-line .ensures)
 
 pub put-line-spec : {M : Type 1} → statement M
 put-line-spec =
@@ -49,8 +56,9 @@ put-line-spec =
     write-basic-requires
     count-requires
     enum-known-announce
-    crc-of-requires
+    slice-aggregate-all
     part-requires
+    crc-of-requires
     write-line-requires
     count-requires-2
     same-length

@@ -1,10 +1,11 @@
 -- What a frame does while the sender waits, by its case. Assumes nothing.
 use mathlib.Core.Path.{refl, ap, _∙_}
+use mathlib.Core.List.{[]}
 use denote.Ref.{now}
 use Rattle.lines.specs.Element.{contentOf}
-use Rattle.bin.specs.Steps.{goes, senderHears}
-use mathlib.Core.List.{[]}
 use Rattle.bin.specs.declared.SenderState.{SenderState}
+use Rattle.bin.specs.Steps.{goes, senderHears}
+use Rattle.bin_frames.specs.Frames.{settingsBy}
 use Rattle.bin_sending.specs.Sending.{doneBy}
 use Rattle.bin_sending.proofs.Deciding.{stayed, hears-by, hears-first, hears-none}
 use borrow.Author.Needs.{needs}
@@ -35,51 +36,51 @@ stops-requires c κs = search needs
 enum-told-2 : tie.Need-enum-told-2
 enum-told-2 c = search needs
 
-ends-requires : tie.Need-ends-requires
-ends-requires c κs = search needs
+stays-requires-2 : tie.Need-stays-requires-2
+stays-requires-2 c κs = search needs
 
 enum-told-3 : tie.Need-enum-told-3
 enum-told-3 c = search needs
 
-ends-requires-2 : tie.Need-ends-requires-2
-ends-requires-2 c κs = search needs
+stays-requires-3 : tie.Need-stays-requires-3
+stays-requires-3 c κs = search needs
 
-stays-requires-2 : tie.Need-stays-requires-2
-stays-requires-2 c κs = search needs
+stays-requires-4 : tie.Need-stays-requires-4
+stays-requires-4 c κs = search needs
 
 returns : tie.Need-returns
 returns c =
     let a = c .before .before .before .before .before .before .args in
-    λ s h g. hears-by s (now (a .file)) (now (a .frame)) _ (c .stays .result) (c .before .before .before .frame-of .ensures) refl (stayed s (now (a .file)) _ (c .stays .ensures) (ap (λ (x : SenderState). goes x []) (c .before .sends-from .ensures) ∙ hears-first s (now (a .file)) (now (a .frame)) (c .before .before .before .frame-of .result) (c .before .before .match .keys1)))
+    λ name. hears-by (settingsBy (a .core) name) (now (a .file)) (now (a .frame)) _ (c .stays .result) (c .before .before .before .frame-of .ensures) refl (stayed (settingsBy (a .core) name) (now (a .file)) _ (c .stays .ensures) (ap (λ (x : SenderState). goes x []) (c .before .sends-from .ensures) ∙ hears-first (settingsBy (a .core) name) (now (a .file)) (now (a .frame)) (c .before .before .before .frame-of .result) (c .before .before .match .keys1)))
 
 returns-2 : tie.Need-returns-2
 unfolding senderHears contentOf
 returns-2 c =
     let a = c .before .before .before .before .before .before .before .args in
-    λ s h g. hears-by s (now (a .file)) (now (a .frame)) _ (c .resumes-at .result) (c .before .before .before .before .frame-of .ensures) (c .before .before .got .given .1) (c .resumes-at .ensures s h g)
+    λ name. hears-by (settingsBy (a .core) name) (now (a .file)) (now (a .frame)) _ (c .resumes-at .result) (c .before .before .before .before .frame-of .ensures) (c .before .before .got .given .1) (c .resumes-at .ensures name)
 
 returns-3 : tie.Need-returns-3
 unfolding senderHears contentOf
 returns-3 c =
     let a = c .before .before .before .before .before .before .args in
-    λ s h g. hears-by s (now (a .file)) (now (a .frame)) _ (c .stops .result) (c .before .before .before .frame-of .ensures) (c .before .enum-told .given .1) (ap (doneBy s (now (a .file))) (c .stops .ensures))
+    λ name. hears-by (settingsBy (a .core) name) (now (a .file)) (now (a .frame)) _ (c .stops .result) (c .before .before .before .frame-of .ensures) (c .before .enum-told .given .1) (ap (doneBy (settingsBy (a .core) name) (now (a .file))) (c .stops .ensures))
 
 returns-4 : tie.Need-returns-4
 unfolding senderHears contentOf
 returns-4 c =
     let a = c .before .before .before .before .before .before .args in
-    λ s h g. hears-by s (now (a .file)) (now (a .frame)) _ (c .ends .result) (c .before .before .before .frame-of .ensures) (c .before .enum-told2 .given .1) (ap (doneBy s (now (a .file))) (c .ends .ensures))
+    λ name. hears-by (settingsBy (a .core) name) (now (a .file)) (now (a .frame)) _ (c .stays2 .result) (c .before .before .before .frame-of .ensures) (c .before .enum-told2 .given .1) (ap (doneBy (settingsBy (a .core) name) (now (a .file))) (c .stays2 .ensures))
 
 returns-5 : tie.Need-returns-5
 unfolding senderHears contentOf
 returns-5 c =
     let a = c .before .before .before .before .before .before .args in
-    λ s h g. hears-by s (now (a .file)) (now (a .frame)) _ (c .ends2 .result) (c .before .before .before .frame-of .ensures) (c .before .enum-told3 .given .1) (ap (doneBy s (now (a .file))) (c .ends2 .ensures))
+    λ name. hears-by (settingsBy (a .core) name) (now (a .file)) (now (a .frame)) _ (c .stays3 .result) (c .before .before .before .frame-of .ensures) (c .before .enum-told3 .given .1) (ap (doneBy (settingsBy (a .core) name) (now (a .file))) (c .stays3 .ensures))
 
 returns-6 : tie.Need-returns-6
 returns-6 c =
     let a = c .before .before .before .before .before .args in
-    λ s h g. hears-by s (now (a .file)) (now (a .frame)) _ (c .stays2 .result) (c .before .before .frame-of .ensures) refl (stayed s (now (a .file)) _ (c .stays2 .ensures) (hears-none s (now (a .file)) (now (a .frame)) (c .before .before .frame-of .result) (c .before .match .keys6)))
+    λ name. hears-by (settingsBy (a .core) name) (now (a .file)) (now (a .frame)) _ (c .stays4 .result) (c .before .before .frame-of .ensures) refl (stayed (settingsBy (a .core) name) (now (a .file)) _ (c .stays4 .ensures) (hears-none (settingsBy (a .core) name) (now (a .file)) (now (a .frame)) (c .before .before .frame-of .result) (c .before .match .keys6)))
 
 pub hears-spec : {M : Type 1} → statement M
 hears-spec =
@@ -93,10 +94,10 @@ hears-spec =
     enum-told
     stops-requires
     enum-told-2
-    ends-requires
-    enum-told-3
-    ends-requires-2
     stays-requires-2
+    enum-told-3
+    stays-requires-3
+    stays-requires-4
     returns
     returns-2
     returns-3

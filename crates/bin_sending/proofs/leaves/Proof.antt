@@ -1,10 +1,9 @@
 -- What a leave does, by the state. Assumes nothing.
-use mathlib.Core.Path.{sym, ap, _∙_}
+use native.Mathlib.Omega.{arith}
 use denote.Ref.{now}
-use Rattle.bin.specs.declared.SenderState.{SenderState}
-use Rattle.bin.specs.Steps.{senderLeaves}
-use Rattle.bin_sending.specs.Sending.{does}
-use Rattle.bin_sending.proofs.Deciding.{stayed, leaves-start, leaves-none}
+use Rattle.bin_frames.specs.Frames.{settingsBy}
+use Rattle.bin_frames.proofs.Cutting.{frame-most}
+use Rattle.bin_sending.proofs.Deciding.{stayed, leaves-start, leaves-send, leaves-none}
 use borrow.Author.Needs.{needs}
 use Rattle.bin_sending.proofs.leaves.Statement.{statement}
 use Rattle.bin_sending.proofs.leaves.Tie as tie
@@ -15,24 +14,35 @@ enum-told c = search needs
 enum-known-state : tie.Need-enum-known-state
 enum-known-state c = search needs
 
-leaves-next-requires : tie.Need-leaves-next-requires
-leaves-next-requires c κs = search needs
+cast-from : tie.Need-cast-from
+cast-from c = search needs
+
+next-requires : tie.Need-next-requires
+next-requires c κs = search needs
+
+add-sends-from : tie.Need-add-sends-from
+add-sends-from c = omega (arith, frame-most (c .before .before .before .before .before .args .core .block) _ _ (c .next .ensures))
+
+sends-from-requires : tie.Need-sends-from-requires
+sends-from-requires c κs = search needs
 
 stays-requires : tie.Need-stays-requires
 stays-requires c κs = search needs
 
 returns : tie.Need-returns
-returns c = λ s h. leaves-start s (now (c .before .before .before .args .file)) _ (c .enum-told .given .1)
+returns c =
+    let a = c .before .before .before .args in
+    λ name. leaves-start (settingsBy (a .core) name) (now (a .file)) _ (c .enum-told .given .1)
 
 returns-2 : tie.Need-returns-2
 returns-2 c =
-    let a = c .before .before .before .before .before .args in
-    λ s h. c .leaves-next .ensures s h ∙ ap (λ (x : SenderState). does (senderLeaves s (now (a .file)) x)) (sym (c .before .before .state .given .1))
+    let a = c .before .before .before .before .before .before .args in
+    λ name. leaves-send (settingsBy (a .core) name) (now (a .file)) _ _ _ _ (c .before .before .before .state .given .1) (c .before .next .ensures) (c .sends-from .ensures)
 
 returns-3 : tie.Need-returns-3
 returns-3 c =
     let a = c .before .before .before .args in
-    λ s h. stayed s (now (a .file)) _ (c .stays .ensures) (leaves-none s (now (a .file)) (a .state) (c .before .match .keys3))
+    λ name. stayed (settingsBy (a .core) name) (now (a .file)) _ (c .stays .ensures) (leaves-none (settingsBy (a .core) name) (now (a .file)) (a .core .state) (c .before .match .keys3))
 
 pub leaves-spec : {M : Type 1} → statement M
 leaves-spec =
@@ -40,7 +50,10 @@ leaves-spec =
     (tie.spec
     enum-told
     enum-known-state
-    leaves-next-requires
+    cast-from
+    next-requires
+    add-sends-from
+    sends-from-requires
     stays-requires
     returns
     returns-2

@@ -16,14 +16,14 @@ stays-requires c κs = search needs
 
 returns : tie.Need-returns
 unfolding resumesAt
-returns c = λ s h g. rw (c .stays .ensures, c .before .sends-from .ensures, h, g, sym (c .before .before .before .is-ours .ensures) ∙ c .before .before .if1 .taken)
+returns c = λ name. rw (c .stays .ensures, c .before .sends-from .ensures, sym (c .before .before .before .is-ours .ensures) ∙ c .before .before .if1 .taken)
 
 stops-requires : tie.Need-stops-requires
 stops-requires c κs = search needs
 
 returns-2 : tie.Need-returns-2
 unfolding resumesAt
-returns-2 c = λ s h g. rw (c .stops .ensures, h, g, sym (c .before .before .is-ours .ensures) ∙ c .before .if1 .left)
+returns-2 c = λ name. rw (c .stops .ensures, sym (c .before .before .is-ours .ensures) ∙ c .before .if1 .left)
 
 pub resumes-at-spec : {M : Type 1} → statement M
 resumes-at-spec =

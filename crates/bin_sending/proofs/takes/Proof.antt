@@ -1,17 +1,10 @@
 -- What a frame does, by the state. Assumes nothing.
 use denote.Ref.{now}
-use Rattle.bin_sending.proofs.Deciding.{stayed, takes-nothing, takes-wait, takes-send, takes-none}
+use Rattle.bin_frames.specs.Frames.{settingsBy}
+use Rattle.bin_sending.proofs.Deciding.{stayed, takes-wait, takes-stop, takes-more, takes-none}
 use borrow.Author.Needs.{needs}
 use Rattle.bin_sending.proofs.takes.Statement.{statement}
 use Rattle.bin_sending.proofs.takes.Tie as tie
-
-stays-requires : tie.Need-stays-requires
-stays-requires c κs = search needs
-
-returns : tie.Need-returns
-returns c =
-    let a = c .before .before .before .before .args in
-    λ s h g. stayed s (now (a .file)) _ (c .stays .ensures) (takes-nothing s (now (a .file)) (a .state) (now (a .frame)) (c .before .if1 .taken))
 
 enum-told : tie.Need-enum-told
 enum-told c = search needs
@@ -19,41 +12,53 @@ enum-told c = search needs
 hears-requires : tie.Need-hears-requires
 hears-requires c κs = search needs
 
-enum-known-state : tie.Need-enum-known-state
-enum-known-state c = search needs
+enum-told-2 : tie.Need-enum-told-2
+enum-told-2 c = search needs
 
-sends-requires : tie.Need-sends-requires
-sends-requires c κs = search needs
+is-stop-requires : tie.Need-is-stop-requires
+is-stop-requires c κs = search needs
+
+stays-requires : tie.Need-stays-requires
+stays-requires c κs = search needs
+
+returns : tie.Need-returns
+returns c =
+    let a = c .before .before .before .before .before .before .before .args in
+    λ name. stayed (settingsBy (a .core) name) (now (a .file)) _ (c .stays .ensures) (takes-stop (settingsBy (a .core) name) (now (a .file)) (a .core .state) _ _ (c .before .before .before .enum-told2 .given .1) (now (a .frame)) (c .before .before .is-stop .ensures) (c .before .if1 .taken))
 
 stays-requires-2 : tie.Need-stays-requires-2
 stays-requires-2 c κs = search needs
 
+stays-requires-3 : tie.Need-stays-requires-3
+stays-requires-3 c κs = search needs
+
 returns-2 : tie.Need-returns-2
 returns-2 c =
-    let a = c .before .before .before .before .before .before .args in
-    λ s h g. takes-wait s (now (a .file)) _ (now (a .frame)) (c .hears .result) (c .before .before .before .if1 .left) (c .before .enum-told .given .1) (c .hears .ensures s h g)
+    let a = c .before .before .before .before .before .args in
+    λ name. takes-wait (settingsBy (a .core) name) (now (a .file)) (a .core .state) (now (a .frame)) (c .hears .result) (c .before .enum-told .given .1) (c .hears .ensures name)
 
 returns-3 : tie.Need-returns-3
 returns-3 c =
     let a = c .before .before .before .before .before .before .before .args in
-    λ s h g. takes-send s (now (a .file)) _ _ (now (a .frame)) (c .sends .result) (c .before .before .before .before .if1 .left) (c .before .before .state .given .1) (c .sends .ensures s (now (a .file)))
+    λ name. stayed (settingsBy (a .core) name) (now (a .file)) _ (c .stays2 .ensures) (takes-more (settingsBy (a .core) name) (now (a .file)) (a .core .state) _ _ (c .before .before .before .enum-told2 .given .1) (now (a .frame)) (c .before .before .is-stop .ensures) (c .before .if1 .left))
 
 returns-4 : tie.Need-returns-4
 returns-4 c =
-    let a = c .before .before .before .before .before .args in
-    λ s h g. stayed s (now (a .file)) _ (c .stays2 .ensures) (takes-none s (now (a .file)) (a .state) (now (a .frame)) (c .before .match .keys3))
+    let a = c .before .before .before .before .args in
+    λ name. stayed (settingsBy (a .core) name) (now (a .file)) _ (c .stays3 .ensures) (takes-none (settingsBy (a .core) name) (now (a .file)) (a .core .state) (now (a .frame)) (c .before .match .keys3))
 
 pub takes-spec : {M : Type 1} → statement M
 takes-spec =
     tie.close
     (tie.spec
-    stays-requires
-    returns
     enum-told
     hears-requires
-    enum-known-state
-    sends-requires
+    enum-told-2
+    is-stop-requires
+    stays-requires
+    returns
     stays-requires-2
+    stays-requires-3
     returns-2
     returns-3
     returns-4)
