@@ -34,17 +34,18 @@ closed {a} g bs e₁ e₂ r₁ r₂ h p q =
 pub front-short : (a : List ℕ) (n : ℕ) → n ≤ 99999999 → length (front a n) ≤ length a + 10
 front-short a n h = let l = decimal-length 7 n (omega arith) (omega arith) in simp length-append (omega arith)
 
-module _ (a : List ℕ) (n : ℕ) (d e₁ e₂ e₃ e₄ : List ℕ) (r₁ r₂ r₃ r₄ : ℕ) where
+module _ (a : List ℕ) (n : ℕ) (d e₁ e₂ e₃ : List ℕ) (r₁ r₂ r₃ : ℕ) where
   pub fronted : length a ≤ 64 → n ≤ 99999999 → 257 ≤ length d
       → (r₁ ≡ appendedEnd 0 a d) × (e₁ ≡ appended 0 a d)
       → (r₂ ≡ appendedEnd r₁ (0 ∷ []) e₁) × (e₂ ≡ appended r₁ (0 ∷ []) e₁)
-      → (r₃ ≡ appendedEnd r₂ (decimal n) e₂) × (e₃ ≡ appended r₂ (decimal n) e₂)
-      → (r₄ ≡ appendedEnd r₃ (0 ∷ []) e₃) × (e₄ ≡ appended r₃ (0 ∷ []) e₃)
-      → Grown (front a n) d e₄ r₄
-  fronted h g k p₁ p₂ p₃ p₄ =
+      → (r₃ ≡ appendedEnd r₂ (decimal n ++ (0 ∷ [])) e₂) × (e₃ ≡ appended r₂ (decimal n ++ (0 ∷ [])) e₂)
+      → Grown (front a n) d e₃ r₃
+  fronted h g k p₁ p₂ p₃ =
       let l = decimal-length 7 n (omega arith) (omega arith) in
       let m = length-append a (0 ∷ []) in
-      closed (closed (grown-none d) a e₁ e₂ r₁ r₂ (omega arith) p₁ p₂) (decimal n) e₃ e₄ r₃ r₄ (omega arith) p₃ p₄
+      let s : length (decimal n ++ (0 ∷ [])) ≤ 9 = simp length-append (omega arith) in
+      let x = closed (grown-none d) a e₁ e₂ r₁ r₂ (omega arith) p₁ p₂ in
+      grown x (decimal n ++ (0 ∷ [])) e₃ r₃ (omega (arith, x .count)) p₃
 
 -- ---- HD
 

@@ -20,8 +20,7 @@ fn put_front(room: &mut [u8], a: &[u8], n: u32) -> usize
 {
     let named = buffers::append_bytes(room, 0, a);
     let at = buffers::append_byte(room, named, 0);
-    let sized = numerals::append_decimal(room, at, n as u64);
-    buffers::append_byte(room, sized, 0)
+    numerals::append_decimal(room, at, n as u64, 0)
 }
 
 // Lays name 00 size 00 option over the beginning of room.

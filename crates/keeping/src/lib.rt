@@ -2,11 +2,7 @@
 use calls::Entry;
 use calls::Keeping;
 use calls::RecordAnswer;
-use fields::Written;
 ghost use mathlib.Core.Path.{_≡_};
-ghost use lib.ListN.{take};
-ghost use Rattle.fields.specs.Buffer.{writtenOf, leftOf};
-ghost use Rattle.records.specs.Saved.{recordForm, saved};
 ghost use Rattle.calls.specs.Saving.{savedBy, heldOf, isWithin, matchesOf, formBy};
 ghost use Rattle.calls.specs.Recording.{recordAnswer, recordLeft};
 
@@ -50,22 +46,16 @@ pub fn matches(entry: Entry, held: &[u8], name: &[u8], size: u32) -> bool
     false
 }
 
-// Writes the record of a name and an entry.
-fn write_entry(entry: Entry, name: &[u8], buf: &mut [u8]) -> Written
-    ensures { λ r. ⌜ (r ≡ writtenOf 81 (recordForm (saved (take (entry .named) (now (name .entry))) (entry .size) (entry .kept) (entry .stamp))) (now (buf .entry))) × (now (buf .exit) ≡ leftOf 81 (recordForm (saved (take (entry .named) (now (name .entry))) (entry .size) (entry .kept) (entry .stamp))) (now (buf .entry))) ⌝ }
-{
-    let stamp = entry.stamp;
-    let named = entry.named;
-    let own = fields::part(name, 0, named);
-    record_writer::write(buf, own, entry.size, entry.kept, stamp)
-}
-
 // Writes the record's bytes, where there is a record; its name stands at the front of name.
 pub fn write_record(keeping: Keeping, name: &[u8], buf: &mut [u8]) -> RecordAnswer
     ensures { λ r. ⌜ (r ≡ recordAnswer (formBy (savedBy keeping (now (name .entry)))) (now (buf .entry))) × (now (buf .exit) ≡ recordLeft (formBy (savedBy keeping (now (name .entry)))) (now (buf .entry))) ⌝ }
 {
     match keeping {
         Keeping::Nothing => RecordAnswer::NoRecord,
-        Keeping::Of(e) => RecordAnswer::Record(write_entry(e, name, buf)),
+        Keeping::Of(e) => {
+            let stamp = e.stamp;
+            let own = fields::part(name, 0, e.named);
+            RecordAnswer::Record(record_writer::write(buf, own, e.size, e.kept, stamp))
+        }
     }
 }

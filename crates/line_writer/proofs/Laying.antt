@@ -12,8 +12,8 @@ use Rattle.fields.specs.Buffer.{over, appended, appendedEnd}
 use Rattle.fields.proofs.Lists.{le-or-lt}
 use Rattle.fields.proofs.Buffer.{grown-is, append-fits, append-short}
 use Rattle.numerals.proofs.Writing.{hex-length}
-use Rattle.line_writer.specs.Head.{lineHead}
-use Rattle.lines.specs.Element.{resumeMark, basicBytes, lineBytes}
+use Rattle.line_writer.specs.Head.{lineSize, lineHead}
+use Rattle.lines.specs.Element.{resumeMark, lineBytes}
 use Rattle.refusal_writer.proofs.Laying.{Laid, So, begin, lay}
 use Rattle.ok_writer.proofs.Laying.{size-short, crc-short}
 
@@ -38,33 +38,31 @@ unfolding lineHead
 head-join size crc stamp x = simp append-assoc
 
 module _ (d : List ℕ) (room : 259 ≤ length d) where
-  pub put-basic : (size a b r : ℕ) (e f g : List ℕ) → size ≤ 99999999
-      → Laid 0 (35 ∷ 66 ∷ 73 ∷ 78 ∷ 35 ∷ []) d a e → Laid a (decimal size) e b f → Laid b (13 ∷ []) f r g
-      → (r ≡ length (basicBytes (decimal size))) × (g ≡ over 0 (basicBytes (decimal size)) d)
-  unfolding basicBytes
-  put-basic size a b r e f g h p q w =
-      let s = lay (begin d) 5 (35 ∷ 66 ∷ 73 ∷ 78 ∷ 35 ∷ []) e a (omega arith) (omega arith) p in
-      let t = lay s 8 (decimal size) f b (size-short size h) (omega arith) q in
-      let u = lay t 1 (13 ∷ []) g r (omega arith) (omega arith) w in
-      grown-is (basicBytes (decimal size)) (u .far) refl
-
-  pub put-head : (size crc stamp : ℕ) {a b c i j r : ℕ} {e f g x y z : List ℕ} → size ≤ 99999999 → crc ≤ 65535
-      → Laid 0 (35 ∷ 66 ∷ 73 ∷ 78 ∷ 35 ∷ []) d a e → Laid a (decimal size) e b f → Laid b (35 ∷ 124 ∷ []) f c g
-      → Laid c (decimal crc) g i x → Laid i (35 ∷ 36 ∷ []) x j y → Laid j (hex 8 stamp) y r z
-      → (r ≡ length (lineHead (decimal size) (decimal crc) (hex 8 stamp))) × (z ≡ over 0 (lineHead (decimal size) (decimal crc) (hex 8 stamp)) d)
-  unfolding lineHead
-  put-head size crc stamp {a} {b} {c} {i} {j} {r} {e} {f} {g} {x} {y} {z} h k l1 l2 l3 l4 l5 l6 =
+  pub put-size : (size end : ℕ) {a r : ℕ} {e f : List ℕ} → size ≤ 99999999
+      → Laid 0 (35 ∷ 66 ∷ 73 ∷ 78 ∷ 35 ∷ []) d a e → Laid a (decimal size ++ (end ∷ [])) e r f
+      → (r ≡ length (lineSize (decimal size) end)) × (f ≡ over 0 (lineSize (decimal size) end) d)
+  put-size size end {a} {r} {e} {f} h l1 l2 =
       let s1 = lay (begin d) 5 (35 ∷ 66 ∷ 73 ∷ 78 ∷ 35 ∷ []) e a (omega arith) (omega arith) l1 in
-      let s2 = lay s1 8 (decimal size) f b (size-short size h) (omega arith) l2 in
-      let s3 = lay s2 2 (35 ∷ 124 ∷ []) g c (omega arith) (omega arith) l3 in
-      let s4 = lay s3 5 (decimal crc) x i (crc-short crc k) (omega arith) l4 in
-      let s5 = lay s4 2 (35 ∷ 36 ∷ []) y j (omega arith) (omega arith) l5 in
-      let s6 = lay s5 8 (hex 8 stamp) z r (omega (arith, hex-length 8 stamp)) (omega arith) l6 in
-      grown-is (lineHead (decimal size) (decimal crc) (hex 8 stamp)) (s6 .far) (simp append-assoc)
+      let s2 = lay s1 9 (decimal size ++ (end ∷ [])) f r (size-short size end h) (omega arith) l2 in
+      grown-is (lineSize (decimal size) end) (s2 .far) refl
+
+  pub put-head : (size crc stamp : ℕ) {a b c i r : ℕ} {e f g x y : List ℕ} → size ≤ 99999999 → crc ≤ 65535
+      → (a ≡ length (lineSize (decimal size) 35)) × (e ≡ over 0 (lineSize (decimal size) 35) d) → Laid a (124 ∷ []) e b f
+      → Laid b (decimal crc ++ (35 ∷ [])) f c g → Laid c (36 ∷ []) g i x → Laid i (hex 8 stamp) x r y
+      → (r ≡ length (lineHead (decimal size) (decimal crc) (hex 8 stamp))) × (y ≡ over 0 (lineHead (decimal size) (decimal crc) (hex 8 stamp)) d)
+  unfolding lineHead
+  put-head size crc stamp {a} {b} {c} {i} {r} {e} {f} {g} {x} {y} h k l1 l2 l3 l4 l5 =
+      let s1 : So 14 (lineSize (decimal size) 35) d e a =
+      record { far = record { bytes = l1 .1; count = l1 .0 }; most = omega (arith, size-short size 35 h) } in
+      let s2 = lay s1 1 (124 ∷ []) f b (omega arith) (omega arith) l2 in
+      let s3 = lay s2 6 (decimal crc ++ (35 ∷ [])) g c (crc-short crc 35 k) (omega arith) l3 in
+      let s4 = lay s3 1 (36 ∷ []) x i (omega arith) (omega arith) l4 in
+      let s5 = lay s4 8 (hex 8 stamp) y r (omega (arith, hex-length 8 stamp)) (omega arith) l5 in
+      grown-is (lineHead (decimal size) (decimal crc) (hex 8 stamp)) (s5 .far) (simp append-assoc)
 
   head-short : (size crc stamp : ℕ) → size ≤ 99999999 → crc ≤ 65535 → length (lineHead (decimal size) (decimal crc) (hex 8 stamp)) ≤ 30
   unfolding lineHead
-  head-short size crc stamp h k = simp length-append (omega (arith, size-short size h, crc-short crc k, hex-length 8 stamp))
+  head-short size crc stamp h k = simp length-append (omega (arith, simp length-append at (size-short size 0 h), simp length-append at (crc-short crc 0 k), hex-length 8 stamp))
 
   pub put-line : (size crc stamp : ℕ) (resumable : Bool) (name : List ℕ) {a b c i r : ℕ} {e f g x y : List ℕ}
       → size ≤ 99999999 → crc ≤ 65535 → length name ≤ 64

@@ -6,20 +6,19 @@ ghost use Prim.Native.Nat.{_≤_};
 ghost use lib.ListN.{length};
 ghost use Rattle.fields.specs.Buffer.{over, appended, appendedEnd, writtenOf, leftOf};
 ghost use Rattle.numerals.specs.Writing.{decimal, hex};
-ghost use Rattle.line_writer.specs.Head.{lineHead};
-ghost use Rattle.lines.specs.Element.{resumeMark, basicBytes, lineBytes, basicForm, lineForm};
+ghost use Rattle.line_writer.specs.Head.{lineSize, lineHead};
+ghost use Rattle.lines.specs.Element.{resumeMark, lineBytes, basicForm, lineForm};
 
 // The least reply buffer.
 const LEAST: usize = 259;
 
-// `#BIN#`size`\r`
-fn put_basic(reply: &mut [u8], size: u32) -> usize
+// `#BIN#`size, and the byte behind it.
+fn put_size(reply: &mut [u8], size: u32, end: u8) -> usize
     requires { ⌜ (size ≤ 99999999) × (259 ≤ length (now reply)) ⌝ }
-    ensures { λ r. ⌜ (r ≡ length (basicBytes (decimal size))) × (now (reply .exit) ≡ over 0 (basicBytes (decimal size)) (now (reply .entry))) ⌝ }
+    ensures { λ r. ⌜ (r ≡ length (lineSize (decimal size) end)) × (now (reply .exit) ≡ over 0 (lineSize (decimal size) end) (now (reply .entry))) ⌝ }
 {
     let start = buffers::append_bytes(reply, 0, b"#BIN#");
-    let sized = numerals::append_decimal(reply, start, size as u64);
-    buffers::append_byte(reply, sized, 13)
+    numerals::append_decimal(reply, start, size as u64, end)
 }
 
 // A basic line: the size.
@@ -32,7 +31,7 @@ pub fn write_basic(reply: &mut [u8], size: u32) -> Written
     if 99_999_999 < size {
         return Written::Formless;
     }
-    let n = put_basic(reply, size);
+    let n = put_size(reply, size, 13);
     Written::Bytes(n)
 }
 
@@ -51,11 +50,10 @@ fn put_head(reply: &mut [u8], size: u32, crc: u16, stamp: u32) -> usize
     requires { ⌜ (size ≤ 99999999) × (259 ≤ length (now reply)) ⌝ }
     ensures { λ r. ⌜ (r ≡ length (lineHead (decimal size) (decimal crc) (hex 8 stamp))) × (now (reply .exit) ≡ over 0 (lineHead (decimal size) (decimal crc) (hex 8 stamp)) (now (reply .entry))) ⌝ }
 {
-    let mark = buffers::append_bytes(reply, 0, b"#BIN#");
-    let size_end = numerals::append_decimal(reply, mark, size as u64);
-    let crc_start = buffers::append_bytes(reply, size_end, b"#|");
-    let crc_end = numerals::append_decimal(reply, crc_start, crc as u64);
-    let stamp_start = buffers::append_bytes(reply, crc_end, b"#$");
+    let sized = put_size(reply, size, b'#');
+    let crc_start = buffers::append_byte(reply, sized, b'|');
+    let crc_end = numerals::append_decimal(reply, crc_start, crc as u64, b'#');
+    let stamp_start = buffers::append_byte(reply, crc_end, b'$');
     hex_writer::append_hex(reply, stamp_start, stamp)
 }
 

@@ -4,11 +4,11 @@ use mathlib.Core.Path.{_≡_, refl}
 use mathlib.Core.List.{List, [], _∷_}
 use mathlib.Core.Bool.{Bool, true, _&&_}
 use mathlib.Core.Logic.{⊎-elim}
-use Prim.Native.Nat.{ℕ, zero, suc, _-_, _*_, _≤_, _<_}
+use Prim.Native.Nat.{ℕ, zero, suc, _+_, _*_, _/_, _≤_, _<_}
 use native.Mathlib.Omega.{arith}
 use lib.ListN.{length, length-take}
 use Rattle.fields.specs.Lists.{part, same}
-use Rattle.fields.proofs.Lists.{le-or-lt, eq-or-not, both, same-eq}
+use Rattle.fields.proofs.Lists.{eq-or-not, both, same-eq}
 use Rattle.packets.specs.Kind.{look}
 use Rattle.listing_lines.specs.Line.{letters}
 
@@ -26,19 +26,10 @@ agreed f g (suc n) h k l =
     let b = both (same (f n) (g n)) (agree f g n) h in
     ⊎-elim (λ e. rw e (same-eq (f n) (g n) (b .0))) (λ e. agreed f g n (b .1) k (omega arith)) (eq-or-not k n)
 
--- two of each kind but the last two
-pub two : (k : ℕ) → k < 17 → part (2 * k) 2 table ≡ letters k
+-- two letters of each kind, and three of the last two
+pub stands : (k : ℕ) → k ≤ 18 → part (2 * k + k / 18) (2 + k / 17) table ≡ letters k
 unfolding letters look same
-two k h = agreed (λ n. part (2 * n) 2 table) letters 17 refl k h
-
--- `BAD` and `CUT`
-pub three : (k : ℕ) → 17 ≤ k → k ≤ 18 → part (3 * k - 17) 3 table ≡ letters k
-unfolding letters look
-three k h g = ⊎-elim (λ e. rw e) (λ e. let e′ : k ≡ 18 = omega arith in rw e′) (eq-or-not k 17)
+stands k h = agreed (λ n. part (2 * n + n / 18) (2 + n / 17) table) letters 19 refl k (omega arith)
 
 pub short : (k : ℕ) → k ≤ 18 → length (letters k) ≤ 3
-short k h =
-    ⊎-elim
-    (λ (g : 17 ≤ k). rw (← three k g h) (simp length-take (omega arith)))
-    (λ (g : k < 17). rw (← two k g) (simp length-take (omega arith)))
-    (le-or-lt 17 k)
+short k h = rw (← stands k h) (simp length-take (omega arith))

@@ -1,7 +1,7 @@
 -- The lines of a listing, laid down piece by piece.
 -- Assumes nothing.
-use mathlib.Core.Path.{_≡_, refl, ap}
-use mathlib.Core.List.{List, [], _∷_, _++_}
+use mathlib.Core.Path.{_≡_, ap}
+use mathlib.Core.List.{List, [], _∷_, _++_, append-assoc}
 use mathlib.Core.Logic.{⊎-elim}
 use Prim.Native.Nat.{ℕ, _+_, _-_, _≤_, _<_, _^_}
 use native.Mathlib.Omega.{arith}
@@ -32,22 +32,26 @@ more {a} {d} {e} {n} g bs e′ r h s =
     let q = grown g bs e′ r h s in
     (q, omega (arith, q .count, g .count, length-append a bs))
 
-pub line-written : (offset k count : ℕ) (d e₁ e₂ e₃ e₄ e₅ e₆ : List ℕ) (r₁ r₂ r₃ r₄ r₅ r₆ : ℕ) → offset < 2 ^ 64 → k ≤ 18
+-- a number and the byte behind it
+ended : (n x : ℕ) → length (decimal n ++ (x ∷ [])) ≡ length (decimal n) + 1
+ended n x = length-append (decimal n) (x ∷ [])
+
+pub line-written : (offset k count : ℕ) (d e₁ e₂ e₃ e₄ : List ℕ) (r₁ r₂ r₃ r₄ : ℕ) → offset < 2 ^ 64 → k ≤ 18
     → 26 + length (decimal count) ≤ length d
-    → Step 0 (decimal offset) d e₁ r₁ → Step r₁ (32 ∷ []) e₁ e₂ r₂ → Step r₂ (letters k) e₂ e₃ r₃ → Step r₃ (32 ∷ []) e₃ e₄ r₄
-    → Step r₄ (decimal count) e₄ e₅ r₅ → Step r₅ (10 ∷ []) e₅ e₆ r₆
-    → (r₆ ≡ length (line offset (letters k) count)) × (e₆ ≡ over 0 (line offset (letters k) count) d)
+    → Step 0 (decimal offset ++ (32 ∷ [])) d e₁ r₁ → Step r₁ (letters k) e₁ e₂ r₂ → Step r₂ (32 ∷ []) e₂ e₃ r₃
+    → Step r₃ (decimal count ++ (10 ∷ [])) e₃ e₄ r₄
+    → (r₄ ≡ length (line offset (letters k) count)) × (e₄ ≡ over 0 (line offset (letters k) count) d)
 unfolding line
-line-written offset k count d e₁ e₂ e₃ e₄ e₅ e₆ r₁ r₂ r₃ r₄ r₅ r₆ ho hk hd s₁ s₂ s₃ s₄ s₅ s₆ =
+line-written offset k count d e₁ e₂ e₃ e₄ r₁ r₂ r₃ r₄ ho hk hd s₁ s₂ s₃ s₄ =
     let lo = digits offset ho in
     let lk = short k hk in
-    let g₁ = more (grown-none d) (decimal offset) e₁ r₁ (omega arith) s₁ in
-    let g₂ = more (g₁ .0) (32 ∷ []) e₂ r₂ (omega (arith, g₁ .1)) s₂ in
-    let g₃ = more (g₂ .0) (letters k) e₃ r₃ (omega (arith, g₁ .1, g₂ .1)) s₃ in
-    let g₄ = more (g₃ .0) (32 ∷ []) e₄ r₄ (omega (arith, g₁ .1, g₂ .1, g₃ .1)) s₄ in
-    let g₅ = more (g₄ .0) (decimal count) e₅ r₅ (omega (arith, g₁ .1, g₂ .1, g₃ .1, g₄ .1)) s₅ in
-    let g₆ = more (g₅ .0) (10 ∷ []) e₆ r₆ (omega (arith, g₁ .1, g₂ .1, g₃ .1, g₄ .1, g₅ .1)) s₆ in
-    grown-is _ (g₆ .0) refl
+    let l₁ = ended offset 32 in
+    let l₄ = ended count 10 in
+    let g₁ = more (grown-none d) (decimal offset ++ (32 ∷ [])) e₁ r₁ (omega arith) s₁ in
+    let g₂ = more (g₁ .0) (letters k) e₂ r₂ (omega (arith, g₁ .1)) s₂ in
+    let g₃ = more (g₂ .0) (32 ∷ []) e₃ r₃ (omega (arith, g₁ .1, g₂ .1)) s₃ in
+    let g₄ = more (g₃ .0) (decimal count ++ (10 ∷ [])) e₄ r₄ (omega (arith, g₁ .1, g₂ .1, g₃ .1)) s₄ in
+    grown-is _ (g₄ .0) (simp append-assoc)
 
 -- ---- the line of an unfinished packet
 
@@ -75,16 +79,16 @@ cut-length offset n ho hn =
     (λ (g : n < 1). rw (cut-none offset n (omega arith)) (omega arith))
     (le-or-lt 1 n)
 
-pub ending-written : (offset n total : ℕ) (d e₀ e₁ e₂ e₃ : List ℕ) (r₀ r₁ r₂ r₃ : ℕ) → offset < 2 ^ 64 → n < 2 ^ 64 → total < 2 ^ 64 → length d ≡ 72
+pub ending-written : (offset n total : ℕ) (d e₀ e₁ e₂ : List ℕ) (r₀ r₁ r₂ : ℕ) → offset < 2 ^ 64 → n < 2 ^ 64 → total < 2 ^ 64 → length d ≡ 72
     → (r₀ ≡ length (cut offset n)) × (e₀ ≡ over 0 (cut offset n) d)
-    → Step r₀ (101 ∷ 110 ∷ 100 ∷ 32 ∷ []) e₀ e₁ r₁ → Step r₁ (decimal total) e₁ e₂ r₂ → Step r₂ (10 ∷ []) e₂ e₃ r₃
-    → (r₃ ≡ length (ending offset n total)) × (e₃ ≡ over 0 (ending offset n total) d)
+    → Step r₀ (101 ∷ 110 ∷ 100 ∷ 32 ∷ []) e₀ e₁ r₁ → Step r₁ (decimal total ++ (10 ∷ [])) e₁ e₂ r₂
+    → (r₂ ≡ length (ending offset n total)) × (e₂ ≡ over 0 (ending offset n total) d)
 unfolding ending
-ending-written offset n total d e₀ e₁ e₂ e₃ r₀ r₁ r₂ r₃ ho hn ht hd s₀ s₁ s₂ s₃ =
+ending-written offset n total d e₀ e₁ e₂ r₀ r₁ r₂ ho hn ht hd s₀ s₁ s₂ =
     let lc = cut-length offset n ho hn in
     let lt = digits total ht in
+    let l₂ = ended total 10 in
     let g₀ : Grown (cut offset n) d e₀ r₀ = record { bytes = s₀ .1; count = s₀ .0 } in
     let g₁ = more g₀ (101 ∷ 110 ∷ 100 ∷ 32 ∷ []) e₁ r₁ (omega (arith, s₀ .0)) s₁ in
-    let g₂ = more (g₁ .0) (decimal total) e₂ r₂ (omega (arith, s₀ .0, g₁ .1)) s₂ in
-    let g₃ = more (g₂ .0) (10 ∷ []) e₃ r₃ (omega (arith, s₀ .0, g₁ .1, g₂ .1)) s₃ in
-    grown-is _ (g₃ .0) refl
+    let g₂ = more (g₁ .0) (decimal total ++ (10 ∷ [])) e₂ r₂ (omega (arith, s₀ .0, g₁ .1)) s₂ in
+    grown-is _ (g₂ .0) (simp append-assoc)

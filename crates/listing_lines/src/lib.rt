@@ -35,10 +35,11 @@ fn append_letters(out: &mut [u8], at: usize, kind: usize) -> usize
     ensures { λ r. ⌜ (r ≡ appendedEnd at (letters kind) (now (out .entry))) × (now (out .exit) ≡ appended at (letters kind) (now (out .entry))) ⌝ }
 {
     let table = b"RRRFAFATCARTSIRIHDDTEFETNRRECNTXHDBADCUT";
-    if kind < 17 {
-        return buffers::append_bytes(out, at, fields::part(table, 2 * kind, 2));
-    }
-    buffers::append_bytes(out, at, fields::part(table, 3 * kind - 17, 3))
+    buffers::append_bytes(
+        out,
+        at,
+        fields::part(table, 2 * kind + kind / 18, 2 + kind / 17),
+    )
 }
 
 // Writes a line to the front of the buffer.
@@ -46,12 +47,10 @@ fn put_line(out: &mut [u8], offset: u64, kind: usize, count: usize) -> usize
     requires { ⌜ (kind ≤ 18) × (26 + length (decimal count) ≤ length (now out)) ⌝ }
     ensures { λ r. ⌜ (r ≡ length (line offset (letters kind) count)) × (now (out .exit) ≡ over 0 (line offset (letters kind) count) (now (out .entry))) ⌝ }
 {
-    let a = numerals::append_decimal(out, 0, offset);
-    let b = buffers::append_byte(out, a, b' ');
-    let c = append_letters(out, b, kind);
-    let d = buffers::append_byte(out, c, b' ');
-    let e = numerals::append_decimal(out, d, count as u64);
-    buffers::append_byte(out, e, b'\n')
+    let a = numerals::append_decimal(out, 0, offset, b' ');
+    let b = append_letters(out, a, kind);
+    let c = buffers::append_byte(out, b, b' ');
+    numerals::append_decimal(out, c, count as u64, b'\n')
 }
 
 // Writes the line of a packet or a drop of this many bytes.
@@ -81,8 +80,7 @@ fn put_pieces(out: &mut [u8], offset: u64, n: usize, total: u64) -> usize
 {
     let at = put_cut(out, offset, n);
     let a = buffers::append_bytes(out, at, b"end ");
-    let b = numerals::append_decimal(out, a, total);
-    buffers::append_byte(out, b, b'\n')
+    numerals::append_decimal(out, a, total, b'\n')
 }
 
 // Writes the last lines.

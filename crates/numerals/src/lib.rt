@@ -1,36 +1,39 @@
 // Numbers written: in specs/ decimal and hex digits, most significant first, and little-endian bytes; here the decimal digits.
 ghost use mathlib.Core.Path.{_≡_};
+ghost use mathlib.Core.List.{[], _∷_, _++_};
 ghost use Rattle.fields.specs.Buffer.{placed, placedCount, appended, appendedEnd};
 ghost use Rattle.numerals.specs.Writing.{decimal};
 
-// Writes the digits of n over the beginning of buf, and returns how many; where they do not fit, writes nothing and
-// returns 0.
-fn put_decimal(buf: &mut [u8], n: u64) -> usize
-    ensures { λ r. ⌜ (r ≡ placedCount (decimal n) (now (buf .entry))) × (now (buf .exit) ≡ placed (decimal n) (now (buf .entry))) ⌝ }
+// Writes the digits of n and then the byte end over the beginning of buf, and returns how many bytes that is; where they do not fit,
+// writes nothing and returns 0.
+fn put_decimal(buf: &mut [u8], n: u64, end: u8) -> usize
+    ensures { λ r. ⌜ (r ≡ placedCount (decimal n ++ (end ∷ [])) (now (buf .entry))) × (now (buf .exit) ≡ placed (decimal n ++ (end ∷ [])) (now (buf .entry))) ⌝ }
 {
     let digit = (48 + n % 10) as u8;
-    if buf.len() == 0 {
+    if buf.len() < 2 {
         return 0;
     }
     if n < 10 {
         buf[0] = digit;
-        return 1;
+        buf[1] = end;
+        return 2;
     }
     let last = buf.len() - 1;
-    let k = put_decimal(&mut buf[..last], n / 10);
+    let k = put_decimal(&mut buf[..last], n / 10, digit);
     if k == 0 {
         return 0;
     }
-    buf[k] = digit;
+    buf[k] = end;
     k + 1
 }
 
-// The digits of n from index at on. Returns the index behind what it wrote; where that does not fit, writes nothing and returns at.
-pub fn append_decimal(buf: &mut [u8], at: usize, n: u64) -> usize
-    ensures { λ r. ⌜ (r ≡ appendedEnd at (decimal n) (now (buf .entry))) × (now (buf .exit) ≡ appended at (decimal n) (now (buf .entry))) ⌝ }
+// The same from index at on: every number is written with a byte behind it. Returns the index behind what it wrote; where that does not
+// fit, writes nothing and returns at.
+pub fn append_decimal(buf: &mut [u8], at: usize, n: u64, end: u8) -> usize
+    ensures { λ r. ⌜ (r ≡ appendedEnd at (decimal n ++ (end ∷ [])) (now (buf .entry))) × (now (buf .exit) ≡ appended at (decimal n ++ (end ∷ [])) (now (buf .entry))) ⌝ }
 {
     if at <= buf.len() {
-        let k = put_decimal(&mut buf[at..], n);
+        let k = put_decimal(&mut buf[at..], n, end);
         return at + k;
     }
     at

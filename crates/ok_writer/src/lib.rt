@@ -8,18 +8,19 @@ ghost use lib.ListN.{length};
 ghost use Rattle.fields.specs.Buffer.{over, bytes as bytesForm, writtenOf, leftOf};
 ghost use Rattle.numerals.specs.Writing.{decimal};
 ghost use Rattle.lines.specs.Element.{okBytes, keptBytes, okNameForm, okKeptForm};
+ghost use Rattle.ok_writer.specs.Start.{okWith};
 
 // The least reply buffer.
 const LEAST: usize = 259;
 
-// `#OK#`name`\r`
-fn put_ok(reply: &mut [u8], name: &[u8]) -> usize
-    requires { ⌜ (length (now name) ≤ 64) × (259 ≤ length (now reply)) ⌝ }
-    ensures { λ r. ⌜ (r ≡ length (okBytes (now (name .entry)))) × (now (reply .exit) ≡ over 0 (okBytes (now (name .entry))) (now (reply .entry))) ⌝ }
+// `#OK#`name, and what follows the name.
+fn put_ok(reply: &mut [u8], name: &[u8], rest: &[u8]) -> usize
+    requires { ⌜ (length (now name) ≤ 64) × (length (now rest) ≤ 2) × (259 ≤ length (now reply)) ⌝ }
+    ensures { λ r. ⌜ (r ≡ length (okWith (now (name .entry)) (now (rest .entry)))) × (now (reply .exit) ≡ over 0 (okWith (now (name .entry)) (now (rest .entry))) (now (reply .entry))) ⌝ }
 {
     let start = buffers::append_bytes(reply, 0, b"#OK#");
     let named = buffers::append_bytes(reply, start, name);
-    buffers::append_byte(reply, named, 13)
+    buffers::append_bytes(reply, named, rest)
 }
 
 // The first OK.
@@ -41,7 +42,7 @@ pub fn write_ok_name(reply: &mut [u8], name: &[u8]) -> Written
         return Written::Small;
     }
     if names::is_name(name) {
-        let n = put_ok(reply, name);
+        let n = put_ok(reply, name, b"\r");
         return Written::Bytes(n);
     }
     Written::Formless
@@ -52,13 +53,9 @@ fn put_kept(reply: &mut [u8], name: &[u8], kept: u32, crc: u16) -> usize
     requires { ⌜ (kept ≤ 99999999) × (length (now name) ≤ 64) × (259 ≤ length (now reply)) ⌝ }
     ensures { λ r. ⌜ (r ≡ length (keptBytes (now (name .entry)) (decimal kept) (decimal crc))) × (now (reply .exit) ≡ over 0 (keptBytes (now (name .entry)) (decimal kept) (decimal crc)) (now (reply .entry))) ⌝ }
 {
-    let mark = buffers::append_bytes(reply, 0, b"#OK#");
-    let name_end = buffers::append_bytes(reply, mark, name);
-    let kept_start = buffers::append_bytes(reply, name_end, b"#$");
-    let kept_end = numerals::append_decimal(reply, kept_start, kept as u64);
-    let crc_start = buffers::append_byte(reply, kept_end, b'#');
-    let crc_end = numerals::append_decimal(reply, crc_start, crc as u64);
-    buffers::append_byte(reply, crc_end, 13)
+    let kept_start = put_ok(reply, name, b"#$");
+    let crc_start = numerals::append_decimal(reply, kept_start, kept as u64, b'#');
+    numerals::append_decimal(reply, crc_start, crc as u64, 13)
 }
 
 // The third OK: the name, how many bytes are kept, and their CRC.

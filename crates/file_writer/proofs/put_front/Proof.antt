@@ -14,19 +14,15 @@ append-byte-requires c κs = search needs
 append-decimal-requires : tie.Need-append-decimal-requires
 append-decimal-requires c κs = search needs
 
-append-byte-requires-2 : tie.Need-append-byte-requires-2
-append-byte-requires-2 c κs = search needs
-
 same-length : tie.Need-same-length
 same-length c = search needs
 
 returns : tie.Need-returns
 returns c =
-    let a = c .before .before .before .before .before .before .before .before .before .before .before .before .before .before .before .before .before .before .args in
-    let pre = c .before .before .before .before .before .before .before .before .before .before .before .before .before .before .before .before .before .before .pre in
-    let x = c .before .before .append-byte2 in
-    let g = fronted (now (a .a)) (a .n) (now (a .room)) _ _ _ (x .last .0) _ _ _ (x .result) (pre .0) (pre .1) (pre .2)
-    (c .before .before .before .before .before .before .before .before .before .before .before .before .before .before .append-bytes .ensures) (c .before .before .before .before .before .before .before .before .before .before .append-byte .ensures) (c .before .before .before .before .before .before .append-decimal .ensures) (x .ensures) in
+    let a = c .before .before .before .before .before .before .before .before .before .before .before .before .before .before .args in
+    let pre = c .before .before .before .before .before .before .before .before .before .before .before .before .before .before .pre in
+    let g = fronted (now (a .a)) (a .n) (now (a .room)) _ _ _ _ _ _ (pre .0) (pre .1) (pre .2)
+    (c .before .before .before .before .before .before .before .before .before .before .append-bytes .ensures) (c .before .before .before .before .before .before .append-byte .ensures) (c .before .before .append-decimal .ensures) in
     (g .count, g .bytes)
 
 pub put-front-spec : {M : Type 1} → statement M
@@ -36,6 +32,5 @@ put-front-spec =
     append-bytes-requires
     append-byte-requires
     append-decimal-requires
-    append-byte-requires-2
     same-length
     returns)

@@ -1,4 +1,4 @@
--- `write_record` writes where there is a record. Assumes nothing.
+-- `write_record` writes the record of the name's own bytes, where there is one. Assumes nothing.
 use mathlib.Core.Path.{refl}
 use borrow.Author.Needs.{needs}
 use Rattle.keeping.proofs.write_record.Statement.{statement}
@@ -10,8 +10,11 @@ enum-told c = search needs
 enum-known-keeping : tie.Need-enum-known-keeping
 enum-known-keeping c = search needs
 
-write-entry-requires : tie.Need-write-entry-requires
-write-entry-requires c κs = search needs
+part-requires : tie.Need-part-requires
+part-requires c κs = tt
+
+write-requires : tie.Need-write-requires
+write-requires c κs = tt
 
 returns : tie.Need-returns
 returns c = search needs
@@ -20,9 +23,18 @@ same-length : tie.Need-same-length
 same-length c = search needs
 
 returns-2 : tie.Need-returns-2
-returns-2 c = rw (c .before .before .before .before .before .keeping .given .1, c .before .before .write-entry .ensures .0, c .before .before .write-entry .ensures .1) (refl, refl)
+returns-2 c =
+    let w = c .before .before .write .ensures in
+    rw (c .before .before .before .before .before .before .keeping .given .1, ← c .before .before .before .before .part .ensures, w .0, w .1) (refl, refl)
 
 pub write-record-spec : {M : Type 1} → statement M
 write-record-spec =
     tie.close
-    (tie.spec enum-told enum-known-keeping write-entry-requires returns same-length returns-2)
+    (tie.spec
+    enum-told
+    enum-known-keeping
+    part-requires
+    write-requires
+    returns
+    same-length
+    returns-2)

@@ -5,51 +5,37 @@ use borrow.Author.Needs.{needs}
 use Rattle.line_writer.proofs.put_head.Statement.{statement}
 use Rattle.line_writer.proofs.put_head.Tie as tie
 
-slice-aggregate-append-bytes : tie.Need-slice-aggregate-append-bytes
-slice-aggregate-append-bytes c = search needs
+put-size-requires : tie.Need-put-size-requires
+put-size-requires c κs = c .before .before .pre
 
-append-bytes-requires : tie.Need-append-bytes-requires
-append-bytes-requires c κs = search needs
+append-byte-requires : tie.Need-append-byte-requires
+append-byte-requires c κs = tt
 
 append-decimal-requires : tie.Need-append-decimal-requires
-append-decimal-requires c κs = search needs
+append-decimal-requires c κs = tt
 
-slice-aggregate-append-bytes-2 : tie.Need-slice-aggregate-append-bytes-2
-slice-aggregate-append-bytes-2 c = search needs
-
-append-bytes-requires-2 : tie.Need-append-bytes-requires-2
-append-bytes-requires-2 c κs = search needs
-
-append-decimal-requires-2 : tie.Need-append-decimal-requires-2
-append-decimal-requires-2 c κs = search needs
-
-slice-aggregate-append-bytes-3 : tie.Need-slice-aggregate-append-bytes-3
-slice-aggregate-append-bytes-3 c = search needs
-
-append-bytes-requires-3 : tie.Need-append-bytes-requires-3
-append-bytes-requires-3 c κs = search needs
+append-byte-requires-2 : tie.Need-append-byte-requires-2
+append-byte-requires-2 c κs = tt
 
 append-hex-requires : tie.Need-append-hex-requires
-append-hex-requires c κs = search needs
+append-hex-requires c κs = tt
 
 same-length : tie.Need-same-length
 same-length c = search needs
 
 returns : tie.Need-returns
-returns c = put-head _ (omega arith) _ _ _ (omega arith) (omega arith) (c .before .before .before .before .before .before .before .before .before .before .before .before .before .before .before .before .before .before .before .before .before .before .before .before .append-bytes .ensures) (c .before .before .before .before .before .before .before .before .before .before .before .before .before .before .before .before .before .before .before .before .append-decimal .ensures) (c .before .before .before .before .before .before .before .before .before .before .before .before .before .before .before .append-bytes2 .ensures) (c .before .before .before .before .before .before .before .before .before .before .before .append-decimal2 .ensures) (c .before .before .before .before .before .before .append-bytes3 .ensures) (c .before .before .append-hex .ensures)
+returns c =
+    let p = c .before .before .before .before .before .before .before .before .before .before .before .before .before .before .before .before .before .before .before .before .before .pre in
+    put-head _ (p .1) _ _ _ (p .0) (omega arith) (c .before .before .before .before .before .before .before .before .before .before .before .before .before .before .before .before .before .before .put-size .ensures) (c .before .before .before .before .before .before .before .before .before .before .before .before .before .before .append-byte .ensures) (c .before .before .before .before .before .before .before .before .before .before .append-decimal .ensures) (c .before .before .before .before .before .before .append-byte2 .ensures) (c .before .before .append-hex .ensures)
 
 pub put-head-spec : {M : Type 1} → statement M
 put-head-spec =
     tie.close
     (tie.spec
-    slice-aggregate-append-bytes
-    append-bytes-requires
+    put-size-requires
+    append-byte-requires
     append-decimal-requires
-    slice-aggregate-append-bytes-2
-    append-bytes-requires-2
-    append-decimal-requires-2
-    slice-aggregate-append-bytes-3
-    append-bytes-requires-3
+    append-byte-requires-2
     append-hex-requires
     same-length
     returns)

@@ -1,16 +1,16 @@
--- The proof of the cycle of calls {put_decimal}. The measure is n. The digits of the quotient go over all but the last byte of buf; where
--- they fit, the last digit follows them.
+-- The proof of the cycle of calls {put_decimal}. The measure is n. The digits of the quotient and the last digit go over all but the
+-- last byte of buf; where they fit, the byte that is to stand behind follows them.
 -- Assumes nothing.
-use mathlib.Core.Path.{_≡_, sym, _∙_}
+use mathlib.Core.Path.{_≡_, refl, sym, _∙_}
 use mathlib.Core.List.{List, [], _∷_, _++_}
 use Prim.Native.Nat.{ℕ, _<_, _≤_, _+_, _-_, _/_, _%_}
 use native.Mathlib.Omega.{arith}
-use lib.ListN.{length, drop, length-set, length-take}
+use lib.ListN.{length, drop, length-set, length-take, length-append}
 use lib.Seq.{length-front}
 use denote.Ref.{now}
 use Rattle.numerals.specs.Writing.{decimal}
 use Rattle.numerals.proofs.Writing.{decimal-small, decimal-more, decimal-some}
-use Rattle.fields.proofs.Buffer.{placed-fits, placed-short, count-fits, count-short, set-over, Snoc, snoc-fits, snoc-count, snoc-refused, snoc-more}
+use Rattle.fields.proofs.Buffer.{placed-fits, placed-short, count-fits, count-short, set-over, grow-set, Snoc, snoc-fits, snoc-count, snoc-refused, snoc-more}
 use borrow.Fn.Kinds.{In}
 use borrow.Fn.PlainCycle.{Measures, is, falls, and}
 use Rattle.numerals.proofs.put_decimal.Reads as reads
@@ -29,22 +29,24 @@ abbrev below : ℕ → In 1 kinds.ps
 below t = and 1 kinds.ps (falls 1 kinds.ps _<_ μ t) reads.Pre
 
 module _ (t : ℕ) where
-  -- the buffer is empty
+  -- two bytes at least are needed
   none : lts.Need-returns (below t, reads.Post) (at t) reads.Post
   none c =
       let a = c .before .before .args in
-      let h : length (now (a .buf)) < length (decimal (a .n)) = omega (arith, decimal-some (a .n)) in
-      (sym (count-short (decimal (a .n)) (now (a .buf)) h), sym (placed-short (decimal (a .n)) (now (a .buf)) h))
+      let bs = decimal (a .n) ++ (a .end ∷ []) in
+      let h : length (now (a .buf)) < length bs = simp length-append (omega (arith, decimal-some (a .n))) in
+      (sym (count-short bs (now (a .buf)) h), sym (placed-short bs (now (a .buf)) h))
 
   -- one digit
   one : lts.Need-returns-2 (below t, reads.Post) (at t) reads.Post
   one c =
       let a = c .before .before .before .args in
-      let h : 1 ≤ length (now (a .buf)) = omega arith in
+      let d = now (a .buf) in
+      let h : 2 ≤ length d = omega arith in
       let x = 48 + a .n % 10 in
       rw (decimal-small (a .n) (c .if2 .taken)) (
-        sym (count-fits (x ∷ []) (now (a .buf)) h),
-        set-over (now (a .buf)) 0 x h ∙ sym (placed-fits (x ∷ []) (now (a .buf)) h),
+        sym (count-fits (x ∷ a .end ∷ []) d h),
+        grow-set (x ∷ []) d _ 1 (set-over d 0 x (omega arith)) refl (a .end) h ∙ sym (placed-fits (x ∷ a .end ∷ []) d h),
       )
 
   -- what the call left
@@ -54,10 +56,13 @@ module _ (t : ℕ) where
   abbrev buffer : After → List ℕ
   buffer c = now (c .before .before .before .before .before .args .buf)
 
-  left : (c : After) → Snoc (decimal (c .before .before .before .before .before .args .n / 10)) (buffer c) (c .put-decimal .last .0) (c .put-decimal .result)
+  abbrev digits : After → List ℕ
+  digits c = let n = c .before .before .before .before .before .args .n in decimal (n / 10) ++ ((48 + n % 10) ∷ [])
+
+  left : (c : After) → Snoc (digits c) (buffer c) (c .put-decimal .last .0) (c .put-decimal .result)
   left c = record {
     some = omega arith;
-    full = decimal-some (c .before .before .before .before .before .args .n / 10);
+    full = simp length-append (omega arith);
     count = c .put-decimal .ensures .0;
     bytes = c .put-decimal .ensures .1;
   }
@@ -81,6 +86,7 @@ pub +put-decimal-spec : {M : Type 1} → statement M
     (λ c. omega arith)
     (none t)
     (λ c. omega arith)
+    (λ c. simp length-set (omega arith))
     (λ c. simp length-set)
     (one t)
     (λ c. omega arith)

@@ -1,6 +1,7 @@
--- `append_decimal` lays the digits of a number over a buffer from an index on.
+-- `append_decimal` lays the digits of a number and a byte over a buffer from an index on.
 -- Assumes nothing.
 use mathlib.Core.Path.{_≡_, refl}
+use mathlib.Core.List.{[], _∷_, _++_}
 use Prim.Native.Nat.{_-_}
 use native.Mathlib.Omega.{arith}
 use denote.Ref.{now}
@@ -31,7 +32,7 @@ add-result c =
     let k = length d - a .at in
     let call = c .before .before .put-decimal in
     let m : length (midOf (a .at) k d) ≡ k = simp (length-take, length-drop) (omega arith) in
-    omega (arith, call .ensures .0, count-le (decimal (a .n)) (midOf (a .at) k d))
+    omega (arith, call .ensures .0, count-le (decimal (a .n) ++ (a .end ∷ [])) (midOf (a .at) k d))
 
 same-length : tie.Need-same-length
 same-length c = search needs
@@ -42,12 +43,12 @@ returns c =
     let d = now (a .buf) in
     let k = length d - a .at in
     let call = c .before .before .put-decimal in
-    append-part (a .at) (decimal (a .n)) d k (call .result) (call .last .0) (omega arith) refl (call .ensures .0) (call .ensures .1)
+    append-part (a .at) (decimal (a .n) ++ (a .end ∷ [])) d k (call .result) (call .last .0) (omega arith) refl (call .ensures .0) (call .ensures .1)
 
 returns-2 : tie.Need-returns-2
 returns-2 c =
     let a = c .before .before .args in
-    append-short (a .at) (decimal (a .n)) (now (a .buf)) (omega arith)
+    append-short (a .at) (decimal (a .n) ++ (a .end ∷ [])) (now (a .buf)) (omega arith)
 
 pub append-decimal-spec : {M : Type 1} → statement M
 append-decimal-spec =
