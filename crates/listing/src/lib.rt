@@ -69,17 +69,15 @@ impl Lister {
     pub fn step(self, chunk: &[u8], out: &mut [u8; 32]) -> Listed
         ensures { λ r. ⌜ stepOf self (now (chunk .entry)) (now (out .entry)) ≡ record { listed = r; out = now (out .exit) } ⌝ }
     {
-        let offset = self.offset;
-        let reader = self.reader;
-        let got = reader.receive(chunk);
+        let got = self.reader.receive(chunk);
         let found = got.found;
         let packet = got.packet;
-        let next = got.reader;
-        let written = put_found(out, offset, found, packet);
+        let reader = got.reader;
+        let written = put_found(out, self.offset, found, packet);
         Listed {
             lister: Lister {
-                reader: next,
-                offset: advance(offset, found),
+                reader,
+                offset: advance(self.offset, found),
             },
             taken: got.taken,
             written,
@@ -90,10 +88,8 @@ impl Lister {
     pub fn end(self, out: &mut [u8; 72]) -> usize
         ensures { λ r. ⌜ (r ≡ length (endText self)) × (now (out .exit) ≡ over 0 (endText self) (now (out .entry))) ⌝ }
     {
-        let offset = self.offset;
-        let reader = self.reader;
-        let filled = reader.filled();
-        let total = std::num::wrapping_add_u64(offset, filled as u64);
-        listing_lines::put_ending(out, offset, filled, total)
+        let filled = self.reader.filled();
+        let total = std::num::wrapping_add_u64(self.offset, filled as u64);
+        listing_lines::put_ending(out, self.offset, filled, total)
     }
 }

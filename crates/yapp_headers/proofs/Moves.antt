@@ -63,28 +63,21 @@ module _ (t : Settings) (c : Current) (name p : List ℕ) (h : Carried) (a : Lis
     unfolding judgeRecord
     resumes-off e = rw e (goes-is c name a p (Ended HaveFile) Have)
 
-  pub record-by : (k : Keeping) → c .keeping ≡ k
-      → reached name (judgeRecord T M a bs (h .number) (h .stamp) (savedBy (c .keeping) name))
-      ≡ reached name (judgeRecord T M a bs (h .number) (h .stamp) (savedBy k name))
-  record-by k e = ap (λ (x : Keeping). reached name (judgeRecord T M a bs (h .number) (h .stamp) (savedBy x name))) e
+  -- the order of judging
+  module _ (kind : ℕ) where
+    pub judges-malformed : (kind ≡ HD → ⊥) → reached name (judgesParts T M a (partsBy p kind h)) ≡ reachedBy p name (failsBy c name Malformed) a
+    unfolding judgesParts
+    judges-malformed e = rw (ne-eqb kind HD e) (goes-is c name a p (CW Malformed) CN)
 
-  pub judges-record : h .number ≤ t .room
-      → reached name (judges T M a bs (h .number) (h .stamp))
-      ≡ reached name (judgeRecord T M a bs (h .number) (h .stamp) (savedBy (c .keeping) name))
-  unfolding judges
-  judges-record e = rw (le-leb (h .number) (t .room) e)
+    pub judges-room : kind ≡ HD → t .room < h .number
+        → reached name (judgesParts T M a (partsBy p kind h)) ≡ reachedBy p name (refusesBy c name NoRoom Room) a
+    unfolding judgesParts judges
+    judges-room e f = rw (eq-eqb kind HD e, lt-leb (h .number) (t .room) f) (goes-is c name a p (Ended NoRoom) Room)
 
-  pub judges-room : t .room < h .number
-      → reached name (judges T M a bs (h .number) (h .stamp)) ≡ reachedBy p name (refusesBy c name NoRoom Room) a
-  unfolding judges
-  judges-room e = rw (lt-leb (h .number) (t .room) e) (goes-is c name a p (Ended NoRoom) Room)
-
-  pub judges-header : (kind : ℕ) → kind ≡ HD
-      → reached name (judgesParts T M a (partsBy p kind h)) ≡ reached name (judges T M a bs (h .number) (h .stamp))
-  unfolding judgesParts
-  judges-header kind e = rw (eq-eqb kind HD e)
-
-  pub judges-malformed : (kind : ℕ) → (kind ≡ HD → ⊥)
-      → reached name (judgesParts T M a (partsBy p kind h)) ≡ reachedBy p name (failsBy c name Malformed) a
-  unfolding judgesParts
-  judges-malformed kind e = rw (ne-eqb kind HD e) (goes-is c name a p (CW Malformed) CN)
+    pub judges-record : kind ≡ HD → h .number ≤ t .room → (k : Keeping) → c .keeping ≡ k
+        → reached name (judgesParts T M a (partsBy p kind h))
+        ≡ reached name (judgeRecord T M a bs (h .number) (h .stamp) (savedBy k name))
+    unfolding judgesParts judges
+    judges-record e f k g =
+        rw (eq-eqb kind HD e, le-leb (h .number) (t .room) f)
+        (ap (λ (x : Keeping). reached name (judgeRecord T M a bs (h .number) (h .stamp) (savedBy x name))) g)

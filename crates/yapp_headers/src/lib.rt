@@ -48,23 +48,14 @@ fn accept(checked: bool, kept: u32, header: Carried, pending: &[u8], out: Out) -
     }
 }
 
-fn is_present(stamp: Stamp) -> bool
-    ensures { λ r. ⌜ r ≡ isPresent stamp ⌝ }
-{
-    match stamp {
-        Stamp::Present(_) => true,
-        Stamp::Absent => false,
-    }
-}
-
 // Whether checksums are wanted and the header had a stamp.
 fn wants(checks: bool, stamp: Stamp) -> bool
     ensures { λ r. ⌜ r ≡ (checks && isPresent stamp) ⌝ }
 {
-    if checks {
-        return is_present(stamp);
+    match stamp {
+        Stamp::Present(_) => checks,
+        Stamp::Absent => false,
     }
-    false
 }
 
 // A header where there is no record: RT or RF.
@@ -123,39 +114,7 @@ fn resume_file(
     yapp_steps::refuse(current, name, Outcome::HaveFile, Out::Have)
 }
 
-fn judge_record(
-    settings: Settings,
-    current: Current,
-    name: &[u8],
-    header: Carried,
-    pending: &[u8],
-) -> Step
-    ensures { λ r. ⌜ ((a : List ℕ) → reached (now (name .entry)) (judgeRecord (settingsBy settings) (nowBy current (now (name .entry))) a (bytesAt (now (pending .entry)) (header .place)) (header .number) (header .stamp) (savedBy (current .keeping) (now (name .entry)))) ≡ reachedBy (now (pending .entry)) (now (name .entry)) r a) ⌝ }
-{
-    let keeping = current.keeping;
-    match keeping {
-        Keeping::Nothing => begin_file(settings, current, name, header, pending),
-        Keeping::Of(e) => resume_file(settings, current, name, e, header, pending),
-    }
-}
-
-// A header is judged; a size over the area is 8.
-fn judge_header(
-    settings: Settings,
-    current: Current,
-    name: &[u8],
-    header: Carried,
-    pending: &[u8],
-) -> Step
-    ensures { λ r. ⌜ ((a : List ℕ) → reached (now (name .entry)) (judges (settingsBy settings) (nowBy current (now (name .entry))) a (bytesAt (now (pending .entry)) (header .place)) (header .number) (header .stamp)) ≡ reachedBy (now (pending .entry)) (now (name .entry)) r a) ⌝ }
-{
-    if header.number as usize <= settings.room {
-        return judge_record(settings, current, name, header, pending);
-    }
-    yapp_steps::refuse(current, name, Outcome::NoRoom, Out::Room)
-}
-
-// A malformed header is 7.
+// A malformed header is 7, a size over the area is 8.
 pub fn judge(
     settings: Settings,
     current: Current,
@@ -166,8 +125,15 @@ pub fn judge(
 ) -> Step
     ensures { λ r. ⌜ ((a : List ℕ) → reached (now (name .entry)) (judgesParts (settingsBy settings) (nowBy current (now (name .entry))) a (partsBy (now (pending .entry)) kind header)) ≡ reachedBy (now (pending .entry)) (now (name .entry)) r a) ⌝ }
 {
-    if kind == HD {
-        return judge_header(settings, current, name, header, pending);
+    if kind != HD {
+        return yapp_steps::fail(current, name, Outcome::Malformed);
     }
-    yapp_steps::fail(current, name, Outcome::Malformed)
+    if settings.room < header.number as usize {
+        return yapp_steps::refuse(current, name, Outcome::NoRoom, Out::Room);
+    }
+    let keeping = current.keeping;
+    let Keeping::Of(entry) = keeping else {
+        return begin_file(settings, current, name, header, pending);
+    };
+    resume_file(settings, current, name, entry, header, pending)
 }

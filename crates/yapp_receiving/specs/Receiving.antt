@@ -1,17 +1,14 @@
 -- What the table's numbers and the states stand for in the code.
 use Prim.Native.Nat.{ℕ}
 use mathlib.Core.Bool.{Bool, true, false}
-use mathlib.Core.List.{List, [], _∷_}
+use mathlib.Core.List.{[], _∷_}
 use Rattle.packets.specs.Kind.{look}
 use Rattle.calls.specs.declared.Outcome.the-variants.{Success, Unexpected, Refused, Cancelled, SecondFile}
 use Rattle.yapp.specs.declared.ReceiverState.{ReceiverState}
 use Rattle.yapp.specs.declared.ReceiverState.the-variants.{R, RH, RD, CW, Ended}
 use Rattle.yapp.specs.Steps.{leftCW}
-use Rattle.yapp_steps.specs.declared.Current.{Current}
-use Rattle.yapp_steps.specs.declared.Step.{Step}
 use Rattle.yapp_steps.specs.declared.Out.{Out}
 use Rattle.yapp_steps.specs.declared.Out.the-variants.{Nothing as Silent, RR, AT, CA, CN, One}
-use Rattle.yapp_steps.specs.Receiving.{stays}
 
 -- neither in CW nor ended
 abbrev pub isOpen : ReceiverState → Bool
@@ -32,6 +29,3 @@ stateBy st n =
 -- what is sent
 unfoldable pub outBy : ℕ → Out
 outBy n = look n ((1, CN) ∷ (3, CA) ∷ (6, CA) ∷ (12, RR) ∷ (13, AT) ∷ (15, One) ∷ []) Silent
-
-abbrev pub actsBy : Current → List ℕ → ℕ → Step
-actsBy c name n = stays c name (stateBy (c .state) n) (outBy n)

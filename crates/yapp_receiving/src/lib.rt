@@ -1,6 +1,5 @@
 // What a YAPP receiver decides, on numbers and enums. Only the data of a DT are stored on the way.
 use calls::Outcome;
-use packets::Packet;
 use reader::Received;
 use yapp::ReceiverState;
 use yapp::table;
@@ -15,19 +14,16 @@ ghost use Prim.Native.Nat.{ℕ};
 ghost use Rattle.packets.specs.Content.{contentOf};
 ghost use Rattle.yapp.specs.Steps.{leftCW, receiverTakes, receiverTimes, receiverStops};
 ghost use Rattle.yapp_steps.specs.Receiving.{settingsIn, currentIn, settingsBy, nowBy, reached, reachedBy};
-ghost use Rattle.yapp_receiving.specs.Receiving.{stateBy, outBy, actsBy, isOpen};
+ghost use Rattle.yapp_receiving.specs.Receiving.{stateBy, outBy, isOpen};
 
 // CW is left with the number that it was entered with.
 fn leave(state: ReceiverState) -> ReceiverState
     ensures { λ r. ⌜ r ≡ leftCW state ⌝ }
 {
-    match state {
-        ReceiverState::R => ReceiverState::R,
-        ReceiverState::RH { whole } => ReceiverState::RH { whole },
-        ReceiverState::RD => ReceiverState::RD,
-        ReceiverState::CW { outcome } => ReceiverState::Ended { outcome },
-        ReceiverState::Ended { outcome } => ReceiverState::Ended { outcome },
-    }
+    let ReceiverState::CW { outcome } = state else {
+        return state;
+    };
+    ReceiverState::Ended { outcome }
 }
 
 // Where an action leads, by its number in the table.
@@ -71,24 +67,6 @@ fn out_by(action: u8) -> Out
     }
 }
 
-// An action by its number, but for 14 (judge a header), 16 (store) and 17 (the end of a file).
-fn act(current: Current, name: &[u8], action: u8) -> Step
-    ensures { λ r. ⌜ r ≡ actsBy current (now (name .entry)) action ⌝ }
-{
-    let state = current.state;
-    yapp_steps::stay(current, name, state_by(state, action), out_by(action))
-}
-
-fn settings_of(core: ReceiverCore) -> Settings
-    ensures { λ r. ⌜ r ≡ settingsIn core ⌝ }
-{
-    Settings {
-        room: core.room,
-        resumes: core.resumes,
-        checks: core.checks,
-    }
-}
-
 fn current_of(core: ReceiverCore, checked: bool) -> Current
     ensures { λ r. ⌜ r ≡ currentIn core checked ⌝ }
 {
@@ -101,30 +79,8 @@ fn current_of(core: ReceiverCore, checked: bool) -> Current
     }
 }
 
-// A packet has come, its places being in the pending bytes. The record's name stands at the front of name.
-fn take_packet(
-    settings: Settings,
-    current: Current,
-    name: &[u8],
-    packet: Packet,
-    pending: &[u8],
-    area: &mut [u8],
-) -> Step
-    ensures { λ r. ⌜ reached (now (name .entry)) (receiverTakes (settingsBy settings) (nowBy current (now (name .entry))) (now (area .entry)) (contentOf (now (pending .entry)) packet)) ≡ reachedBy (now (pending .entry)) (now (name .entry)) r (now (area .exit)) ⌝ }
-{
-    let state = current.state;
-    let kind = kinds::kind_of(packet);
-    let carried = parts::carried_by(packet);
-    let action = table::receive_action(state, kind);
-    match action {
-        14 => yapp_headers::judge(settings, current, name, kind, carried, pending),
-        16 => yapp_storing::store_block(current, name, carried, pending, area),
-        17 => yapp_storing::end_file(current, name),
-        _ => act(current, name, action),
-    }
-}
-
-// What a reader has found, the receiver being in YappC or not.
+// What a reader has found, the receiver being in YappC or not. By the table's number a header is judged (14), data are stored (16) or a file
+// ends (17); any other number says where to go and what to send.
 pub fn take(
     core: ReceiverCore,
     checked: bool,
@@ -134,17 +90,26 @@ pub fn take(
 ) -> Step
     ensures { λ r. ⌜ reached (now (name .entry)) (receiverTakes (settingsBy (settingsIn core)) (nowBy (currentIn core checked) (now (name .entry))) (now (area .entry)) (contentOf (received .reader .pending) (received .packet))) ≡ reachedBy (received .reader .pending) (now (name .entry)) r (now (area .exit)) ⌝ }
 {
-    let reader = received.reader;
+    let state = core.state;
     let packet = received.packet;
-    let pending = reader.pending();
-    take_packet(
-        settings_of(core),
-        current_of(core, checked),
-        name,
-        packet,
-        &pending,
-        area,
-    )
+    let pending = received.reader.pending();
+    let current = current_of(core, checked);
+    let kind = kinds::kind_of(packet);
+    let carried = parts::carried_by(packet);
+    let action = table::receive_action(state, kind);
+    match action {
+        14 => {
+            let settings = Settings {
+                room: core.room,
+                resumes: core.resumes,
+                checks: core.checks,
+            };
+            return yapp_headers::judge(settings, current, name, kind, carried, &pending);
+        }
+        16 => return yapp_storing::store_block(current, name, carried, &pending, area),
+        17 => return yapp_storing::end_file(current, name),
+        _ => return yapp_steps::stay(current, name, state_by(state, action), out_by(action)),
+    }
 }
 
 // Whether the receiver is neither in CW nor at its end.

@@ -2,9 +2,11 @@
 use mathlib.Core.Path.{_≡_, refl, sym, _∙_}
 use mathlib.Core.Bool.{Bool, true, false}
 use mathlib.Core.List.{List, []}
-use Prim.Native.Nat.{ℕ, _+_, _<_, _≤_}
+use Prim.Native.Nat.{ℕ, _+_, _-_, _<_, _≤_}
+use native.Mathlib.Omega.{arith}
+use lib.Dec.{leb}
 use lib.ListN.{length}
-use borrow.Author.Tests.{le-leb, lt-leb, eq-eqb, ne-eqb}
+use borrow.Author.Tests.{leb-true, leb-false, le-leb, lt-leb, eq-eqb, ne-eqb}
 use Rattle.fields.specs.Buffer.{appended}
 use Rattle.calls.specs.declared.Keeping.{Keeping}
 use Rattle.calls.specs.declared.Keeping.the-variants.{Nothing, Of}
@@ -39,11 +41,6 @@ module _ (c : Current) (name a p : List ℕ) where
   unfolding stores
   stores-unsound d sound h = rw h (goes-is c name a p (CW CheckFailed) CN)
 
-  pub stores-past : (d : List ℕ) → sizeOf (savedBy (c .keeping) name) < keptOf (savedBy (c .keeping) name) + length d
-      → reached name (stores N a d true) ≡ reachedBy p name (failsBy c name PastSize) a
-  unfolding stores
-  stores-past d h = rw (lt-leb (keptOf (savedBy (c .keeping) name) + length d) (sizeOf (savedBy (c .keeping) name)) h) (goes-is c name a p (CW PastSize) CN)
-
   grown-kept : (k : Keeping) (n : ℕ) → keepingOf (grown (savedBy k name) n) ≡ keptAt (heldOf k name) (keptOf (savedBy k name) + n)
   grown-kept Nothing n = refl
   grown-kept (Of e) n = refl
@@ -52,9 +49,27 @@ module _ (c : Current) (name a p : List ℕ) where
   grown-name Nothing n = refl
   grown-name (Of e) n = keep-front (e .named) name ∙ sym (keep-none name)
 
-  pub stores-within : (d : List ℕ) → keptOf (savedBy (c .keeping) name) + length d ≤ sizeOf (savedBy (c .keeping) name)
-      → reached name (stores N a d true)
-      ≡ reachedBy p name (growsBy c name (keptOf (savedBy (c .keeping) name) + length d) (length d)) (appended (keptOf (savedBy (c .keeping) name)) d a)
-  unfolding stores
-  stores-within d h =
-      rw (le-leb (keptOf (savedBy (c .keeping) name) + length d) (sizeOf (savedBy (c .keeping) name)) h, grown-kept (c .keeping) (length d), grown-name (c .keeping) (length d))
+  -- with what the code has read of the block and of the record
+  module _ (d : List ℕ) (sound : Bool) (bs : List ℕ) (kept size : ℕ) (h : sound ≡ true)
+      (b : bs ≡ d) (k : kept ≡ keptOf (savedBy (c .keeping) name)) (z : size ≡ sizeOf (savedBy (c .keeping) name)) where
+    pub stores-past : leb (kept + length bs) size ≡ false → reached name (stores N a d sound) ≡ reachedBy p name (failsBy c name PastSize) a
+    unfolding stores
+    stores-past e = rw (h, ← b, ← k, ← z, e) (goes-is c name a p (CW PastSize) CN)
+
+    pub stores-within : leb (kept + length bs) size ≡ true
+        → reached name (stores N a d sound) ≡ reachedBy p name (growsBy c name (kept + length bs) (length bs)) (appended kept bs a)
+    unfolding stores
+    stores-within e =
+        let within : leb (keptOf (savedBy (c .keeping) name) + length d) (sizeOf (savedBy (c .keeping) name)) ≡ true = rw (b, k, z) at e in
+        rw (h, b, k, within, grown-kept (c .keeping) (length d), grown-name (c .keeping) (length d))
+
+-- what is left compared with what comes
+pub left-leb : (kept n size : ℕ) → kept ≤ size → leb n (size - kept) ≡ leb (kept + n) size
+left-leb kept n size h = go (leb n (size - kept)) refl
+  where
+    go : (b : Bool) → leb n (size - kept) ≡ b → b ≡ leb (kept + n) size
+    go true e = let z = leb-true n (size - kept) e in sym (le-leb (kept + n) size (omega arith))
+    go false e = let z = leb-false n (size - kept) e in sym (lt-leb (kept + n) size (omega arith))
+
+pub over-leb : (kept n size : ℕ) → size < kept → false ≡ leb (kept + n) size
+over-leb kept n size h = sym (lt-leb (kept + n) size (omega arith))

@@ -9,9 +9,9 @@ use yapp_steps::Current;
 use yapp_steps::Out;
 use yapp_steps::Step;
 ghost use mathlib.Core.Path.{_≡_};
-ghost use mathlib.Core.Bool.{true};
 ghost use mathlib.Core.List.{List};
-ghost use Prim.Native.Nat.{ℕ};
+ghost use Prim.Native.Nat.{ℕ, _+_};
+ghost use lib.Dec.{leb};
 ghost use Rattle.fields.specs.Lists.{bytesAt};
 ghost use Rattle.calls.specs.Saving.{savedBy, keptOf, sizeOf};
 ghost use Rattle.yapp.specs.Steps.{stores, endsFile};
@@ -34,6 +34,16 @@ fn size_of(keeping: Keeping) -> u32
         Keeping::Nothing => 0,
         Keeping::Of(e) => e.size,
     }
+}
+
+// Whether n bytes more are within the size.
+fn fits(kept: u32, n: usize, size: u32) -> bool
+    ensures { λ r. ⌜ r ≡ leb (kept + n) size ⌝ }
+{
+    if kept <= size {
+        return n <= (size - kept) as usize;
+    }
+    false
 }
 
 // The record with another kept count.
@@ -73,25 +83,8 @@ fn grow(current: Current, name: &[u8], kept: u32, n: usize) -> Step
     }
 }
 
-// The data are stored directly behind the kept bytes and count as kept in the same step; past the announced size is 12.
-fn store(current: Current, name: &[u8], bytes: &[u8], area: &mut [u8]) -> Step
-    ensures { λ r. ⌜ ((p : List ℕ) → reached (now (name .entry)) (stores (nowBy current (now (name .entry))) (now (area .entry)) (now (bytes .entry)) true) ≡ reachedBy p (now (name .entry)) r (now (area .exit))) ⌝ }
-{
-    let keeping = current.keeping;
-    let kept = kept_of(keeping);
-    let size = size_of(keeping);
-    let n = bytes.len();
-    if size < kept {
-        return yapp_steps::fail(current, name, Outcome::PastSize);
-    }
-    if ((size - kept) as usize) < n {
-        return yapp_steps::fail(current, name, Outcome::PastSize);
-    }
-    buffers::append_bytes(area, kept as usize, bytes);
-    grow(current, name, kept + n as u32, n)
-}
-
-// A DT; a bad checksum is 11, judged first.
+// A DT; a bad checksum is 11, judged first, and data past the announced size are 12. Else the data are stored directly behind the kept bytes
+// and count as kept in the same step.
 pub fn store_block(
     current: Current,
     name: &[u8],
@@ -102,8 +95,17 @@ pub fn store_block(
     ensures { λ r. ⌜ ((p : List ℕ) → reached (now (name .entry)) (stores (nowBy current (now (name .entry))) (now (area .entry)) (bytesAt (now (pending .entry)) (block .place)) (block .flag)) ≡ reachedBy p (now (name .entry)) r (now (area .exit))) ⌝ }
 {
     if block.flag {
+        let keeping = current.keeping;
         let place = block.place;
-        return store(current, name, fields::bytes_at(pending, place), area);
+        let bytes = fields::bytes_at(pending, place);
+        let n = bytes.len();
+        let kept = kept_of(keeping);
+        let size = size_of(keeping);
+        if fits(kept, n, size) {
+            buffers::append_bytes(area, kept as usize, bytes);
+            return grow(current, name, kept + n as u32, n);
+        }
+        return yapp_steps::fail(current, name, Outcome::PastSize);
     }
     yapp_steps::fail(current, name, Outcome::CheckFailed)
 }

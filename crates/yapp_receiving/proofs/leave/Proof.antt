@@ -1,49 +1,17 @@
--- `leave` goes by the state. Assumes nothing.
+-- `leave` goes by whether the state is CW. Assumes nothing.
+use Rattle.yapp_receiving.proofs.Moves.{left-others}
 use borrow.Author.Needs.{needs}
 use Rattle.yapp_receiving.proofs.leave.Statement.{statement}
 use Rattle.yapp_receiving.proofs.leave.Tie as tie
 
-enum-told : tie.Need-enum-told
-enum-told c = search needs
-
 enum-known-state : tie.Need-enum-known-state
 enum-known-state c = search needs
 
-enum-told-2 : tie.Need-enum-told-2
-enum-told-2 c = search needs
-
-enum-known-state-2 : tie.Need-enum-known-state-2
-enum-known-state-2 c = search needs
-
-enum-known-state-3 : tie.Need-enum-known-state-3
-enum-known-state-3 c = search needs
-
 returns : tie.Need-returns
-returns c = search needs
+returns c = left-others (c .before .args .state) (c .match .keys2)
 
 returns-2 : tie.Need-returns-2
 returns-2 c = rw (c .before .state .given .1)
 
-returns-3 : tie.Need-returns-3
-returns-3 c = search needs
-
-returns-4 : tie.Need-returns-4
-returns-4 c = rw (c .before .state2 .given .1)
-
-returns-5 : tie.Need-returns-5
-returns-5 c = rw (c .before .state3 .given .1)
-
 pub leave-spec : {M : Type 1} → statement M
-leave-spec =
-    tie.close
-    (tie.spec
-    enum-told
-    enum-known-state
-    enum-told-2
-    enum-known-state-2
-    enum-known-state-3
-    returns
-    returns-2
-    returns-3
-    returns-4
-    returns-5)
+leave-spec = tie.close (tie.spec enum-known-state returns returns-2)

@@ -11,8 +11,8 @@ receive-requires c κs = search needs
 
 put-found-requires : tie.Need-put-found-requires
 put-found-requires c κs =
-    let r = c .before .before .before .before .before .args .self .reader in
-    rw (c .before .before .receive .ensures) (feed-size (r .checked) (r .pending) (r .filled) 0 (now (c .before .before .before .before .before .args .chunk)))
+    let r = c .before .before .before .before .args .self .reader in
+    rw (c .before .before .receive .ensures) (feed-size (r .checked) (r .pending) (r .filled) 0 (now (c .before .before .before .before .args .chunk)))
 
 advance-requires : tie.Need-advance-requires
 advance-requires c κs = search needs
