@@ -10,20 +10,20 @@ pub fn put_number(label: &[u8], n: usize) {
     io::print_decimal(STDOUT_FILENO, n as u64);
 }
 
+fn digit(n: u8) -> u8 {
+    fields::byte_at(b"0123456789ABCDEF", n as usize)
+}
+
 // A printable byte as it is, any other in hex.
 fn put_byte(c: u8) {
+    let forms = [c, b'<', digit(c / 16), digit(c % 16), b'>'];
+    let shown: &[u8] = &forms;
     if 32 <= c {
         if c <= 126 {
-            let one = [c];
-            put(&one);
-            return;
+            return put(fields::part(shown, 0, 1));
         }
     }
-    let mut digits = [0u8; 2];
-    hex_writer::fill_hex(&mut digits, c as u32);
-    put(b"<");
-    put(&digits);
-    put(b">");
+    put(fields::part(shown, 1, 4));
 }
 
 pub fn put_bytes(s: &[u8]) {

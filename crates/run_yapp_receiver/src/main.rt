@@ -38,20 +38,20 @@ fn put_number(label: &[u8], n: usize) {
     io::print_decimal(STDOUT_FILENO, n as u64);
 }
 
+fn digit(n: u8) -> u8 {
+    fields::byte_at(b"0123456789ABCDEF", n as usize)
+}
+
 // A printable byte as it is, any other in hex.
 fn put_byte(c: u8) {
+    let forms = [c, b'<', digit(c / 16), digit(c % 16), b'>'];
+    let shown: &[u8] = &forms;
     if 32 <= c {
         if c <= 126 {
-            let one = [c];
-            put(&one);
-            return;
+            return put(fields::part(shown, 0, 1));
         }
     }
-    let mut digits = [0u8; 2];
-    hex_writer::fill_hex(&mut digits, c as u32);
-    put(b"<");
-    put(&digits);
-    put(b">");
+    put(fields::part(shown, 1, 4));
 }
 
 fn put_bytes(s: &[u8]) {
@@ -70,49 +70,45 @@ fn put_text(label: &[u8], s: &[u8]) {
     }
 }
 
-// Where the first byte stands that differs; the length where none does.
-fn differs_from(a: &[u8], b: &[u8]) -> usize {
-    let mut i = 0;
-    while i < a.len() {
-        if fields::byte_at(a, i) == fields::byte_at(b, i) {
-            i += 1;
-        } else {
-            return i;
-        }
-    }
-    i
+// Where the first byte stands that differs, and the index behind the last; both are 0 where none does.
+struct Change {
+    from: usize,
+    to: usize,
 }
 
-// The index behind the last byte that differs; 0 where none does.
-fn differs_to(a: &[u8], b: &[u8]) -> usize {
+fn change_of(a: &[u8], b: &[u8]) -> Change {
+    let mut from = 0;
     let mut to = 0;
     let mut i = 0;
     while i < a.len() {
         if fields::byte_at(a, i) != fields::byte_at(b, i) {
+            if to == 0 {
+                from = i;
+            }
             to = i + 1;
         }
         i += 1;
     }
-    to
+    Change { from, to }
 }
 
-// Where after is not before.
-fn put_change(label: &[u8], before: &[u8], after: &[u8]) {
+fn put_change(label: &[u8], c: Change) {
     put(label);
-    if names::same(before, after) {
-        put(b" untouched");
-        return;
+    if c.to == 0 {
+        return put(b" untouched");
     }
-    put_number(b" ", differs_from(before, after));
-    put_number(b"..", differs_to(before, after));
+    put_number(b" ", c.from);
+    put_number(b"..", c.to);
 }
 
-// The same, and the bytes that stand there now.
+// Where the area is not what it was, and the bytes that stand there now.
 fn put_stored(before: &[u8], after: &[u8]) {
-    put_change(b"; area", before, after);
-    let from = differs_from(before, after);
-    let all = fields::part(after, 0, differs_to(before, after));
-    put_text(b" ", fields::part(all, from, after.len()));
+    let c = change_of(before, after);
+    put_change(b"; area", c);
+    put_text(
+        b" ",
+        fields::part(fields::part(after, 0, c.to), c.from, c.to),
+    );
 }
 
 // Document 01's number.
@@ -382,7 +378,7 @@ fn show(got: ReceiverAnswer, before: &[u8], reply: &[u8]) {
     let status = got.status;
     put_end(status, got.receiver);
     put_counts(got.taken, fields::part(reply, 0, got.sent), got.stored);
-    put_change(b"; reply", before, reply);
+    put_change(b"; reply", change_of(before, reply));
 }
 
 fn hand(p: Play, which: usize, chunk: &[u8], before: &[u8], reply: &mut [u8]) -> Play {
@@ -449,7 +445,7 @@ fn put_record(m: Receiver) {
     let mut buf = [0xEE; 81];
     let got = m.record(&mut buf);
     put_answer(got, &buf);
-    put_change(b"; buffer", &before, &buf);
+    put_change(b"; buffer", change_of(&before, &buf));
 }
 
 fn act(p: Play, line: &[u8]) -> Play {

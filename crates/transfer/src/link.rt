@@ -9,10 +9,20 @@ pub struct Link {
 // The date and time of last change that the header and the line carry.
 pub const STAMP: u32 = 0x5B6E_A3C0;
 
-// What a session leaves: how many bytes its record has, and whether the receiver ended with the file whole.
+// What a session leaves: the bytes of its record, how many they are, and whether the receiver ended with the file whole.
 pub struct Saved {
+    pub bytes: [u8; 81],
     pub count: usize,
     pub whole: bool,
+}
+
+// Before the first session.
+pub fn nothing() -> Saved {
+    Saved {
+        bytes: [0; 81],
+        count: 0,
+        whole: false,
+    }
 }
 
 // A link that breaks after so many bytes.
@@ -48,20 +58,22 @@ pub fn is_over(link: Link, sender_at: usize, receiver_at: usize) -> bool {
     false
 }
 
-// What passes of a packet of n bytes, which is shown: as many bytes as the link still carries.
-pub fn packet(link: Link, arrow: u8, checked: bool, bytes: &[u8], n: usize) -> &[u8] {
-    let passed = fields::part(fields::part(bytes, 0, n), 0, link.left);
-    if 0 < n {
-        text::packet(arrow, fields::part(bytes, 0, n), checked, passed.len());
-    }
+// What passes of a packet, which is shown: as many bytes as the link still carries.
+pub fn packet(link: Link, from: usize, checked: bool, packet: &[u8]) -> &[u8] {
+    let passed = fields::part(packet, 0, link.left);
+    text::passing(
+        from,
+        text::packet_number(packet, checked),
+        packet.len(),
+        passed.len(),
+    );
     passed
 }
 
-// What passes of a frame of n bytes, which is shown: all of it, or none.
-pub fn frame(link: Link, arrow: u8, is_data: bool, bytes: &[u8], n: usize) -> &[u8] {
+// What passes of a frame, which is shown: all of it, or none.
+pub fn frame(link: Link, from: usize, is_data: bool, frame: &[u8]) -> &[u8] {
+    let n = frame.len();
     let passed = if n <= link.left { n } else { 0 };
-    if 0 < n {
-        text::frame(arrow, fields::part(bytes, 0, n), is_data, passed);
-    }
-    fields::part(bytes, 0, passed)
+    text::passing(from, text::frame_number(frame, is_data), n, passed);
+    fields::part(frame, 0, passed)
 }

@@ -75,9 +75,11 @@ fn print_way(way: usize) {
 // ---- Sessions
 
 fn print_good(len: usize, kept: u32, size: u32) {
-    put_number(b"  record of | bytes: kept |", len);
-    put_number(b"| of |", kept as usize);
-    put_number(b"|\n|", size as usize);
+    let words: &[u8] = b"  record of | bytes: kept | of |\n|";
+    put_number(words, 0, len);
+    put_number(words, 1, kept as usize);
+    put_number(words, 2, size as usize);
+    put_word(words, 3);
 }
 
 fn print_read(len: usize, read: RecordRead) {
@@ -87,35 +89,27 @@ fn print_read(len: usize, read: RecordRead) {
     }
 }
 
-fn print_record(bytes: &[u8]) {
-    if bytes.len() == 0 {
+fn print_record(saved: Saved) {
+    let bytes = saved.bytes;
+    if saved.count == 0 {
         return put(b"  no record\n");
     }
-    print_read(bytes.len(), record_reader::record_of(bytes));
-}
-
-fn by(
-    way: usize,
-    bytes: &mut [u8],
-    count: usize,
-    name: &[u8],
-    left: usize,
-    file: &[u8],
-    area: &mut [u8],
-) -> Saved {
-    if way == BIN {
-        return bin_link::session(bytes, count, name, left, file, area);
-    }
-    yapp_link::session(bytes, count, way == YAPPC, name, left, file, area)
+    print_read(
+        saved.count,
+        record_reader::record_of(fields::part(&bytes, 0, saved.count)),
+    );
 }
 
 fn print_session(number: u32, way: usize, left: usize) {
-    put_number(b"\nsession | by |", number as usize);
+    let words: &[u8] = b"\nsession | by |, the link breaks after | bytes|\n|";
+    put_number(words, 0, number as usize);
+    put_word(words, 1);
     print_way(way);
     if number <= BREAKS {
-        return put_number(b", the link breaks after | bytes\n|", left);
+        put_number(words, 2, left);
+        put_word(words, 3);
     }
-    put(b"\n");
+    put_word(words, 4);
 }
 
 // How many bytes the link carries in a session: as the seed picks, or any number once it has broken often enough.
@@ -138,8 +132,7 @@ fn session(
     number: u32,
     own: usize,
     seed: u64,
-    bytes: &mut [u8],
-    count: usize,
+    before: Saved,
     name: &[u8],
     file: &[u8],
     area: &mut [u8],
@@ -147,22 +140,22 @@ fn session(
     let way = way_of(number, own, seed);
     let left = left_of(number, next(seed), file.len());
     print_session(number, way, left);
-    by(way, bytes, count, name, left, file, area)
+    if way == BIN {
+        return bin_link::session(before, name, left, file, area);
+    }
+    yapp_link::session(before, way == YAPPC, name, left, file, area)
 }
 
 // Sessions until the file is whole.
 fn sessions(own: usize, seed: u64, name: &[u8], file: &[u8], area: &mut [u8]) {
-    let mut space = [0; 81];
-    let bytes: &mut [u8] = &mut space;
+    let mut saved = link::nothing();
     let mut state = next(seed);
-    let mut count = 0;
     let mut number = 1;
     while number <= BREAKS + 1 {
-        let after = session(number, own, state, bytes, count, name, file, area);
+        saved = session(number, own, state, saved, name, file, area);
         state = next(next(state));
-        count = after.count;
-        print_record(fields::part(bytes, 0, count));
-        if after.whole {
+        print_record(saved);
+        if saved.whole {
             return;
         }
         number += 1;
@@ -170,11 +163,13 @@ fn sessions(own: usize, seed: u64, name: &[u8], file: &[u8], area: &mut [u8]) {
 }
 
 fn print_title(own: usize, name: &[u8], size: usize) {
-    put(b"\n");
+    let words: &[u8] = b"\n|, | bytes, by |";
+    put_word(words, 0);
     put(name);
-    put_number(b", | bytes, by |", size);
+    put_number(words, 1, size);
+    put_word(words, 2);
     print_way(own);
-    put(b"\n");
+    put_word(words, 0);
 }
 
 fn print_compared(area: &[u8], file: &[u8]) {

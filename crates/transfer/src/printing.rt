@@ -17,9 +17,8 @@ pub fn put_word(words: &[u8], number: usize) {
     put(fields::part(rest, 0, fields::find(rest, b'|')));
 }
 
-// A number behind the first word, and then the second.
-pub fn put_number(words: &[u8], n: usize) {
-    put_word(words, 0);
+// The word with this number, and n behind it.
+pub fn put_number(words: &[u8], number: usize, n: usize) {
+    put_word(words, number);
     io::print_decimal(STDOUT_FILENO, n as u64);
-    put_word(words, 1);
 }

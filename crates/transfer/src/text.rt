@@ -1,5 +1,4 @@
 // The lines of the transcript. States, packets and frames are numbers here: the places of their words.
-use crate::printing::put;
 use crate::printing::put_number;
 use crate::printing::put_word;
 use bin::ReceiverState as BinReceiverState;
@@ -137,69 +136,64 @@ pub fn moved(who: usize, before: usize, after: usize) {
     if before / 32 == after / 32 {
         return;
     }
-    put_word(b"    sender |    receiver |", who);
+    let words: &[u8] = b"    sender |    receiver | to |\n|";
+    put_word(words, who);
     print_state(before);
-    put(b" to ");
+    put_word(words, 2);
     print_state(after);
-    put(b"\n");
+    put_word(words, 3);
 }
 
-// Of how many bytes it is, and how many of them passed before the link broke.
-fn print_length(n: usize, passed: usize) {
-    if n == passed {
-        return put_number(b" | bytes\n|", n);
+// A packet or a frame on its way, if it has any bytes: who sent it, the place of its word, and how many of its bytes pass.
+pub fn passing(from: usize, number: usize, n: usize, passed: usize) {
+    if n == 0 {
+        return;
     }
-    put_number(b" | bytes, the link breaks after |", n);
-    put_number(b"|\n|", passed);
+    let words: &[u8] = b"> |< | | bytes|, the link breaks after |\n|";
+    put_word(words, from);
+    print_kind(number);
+    put_number(words, 2, n);
+    put_word(words, 3);
+    if passed < n {
+        put_number(words, 4, passed);
+    }
+    put_word(words, 5);
 }
 
-fn print_arrow(arrow: u8) {
-    let shown = [arrow, b' '];
-    put(&shown);
-}
-
-// A packet on its way.
-pub fn packet(arrow: u8, bytes: &[u8], checked: bool, passed: usize) {
-    print_arrow(arrow);
+fn print_kind(number: usize) {
     put_word(
-        b"RR|RF|AF|AT|CA|RT|SI|RI|HD|DT|EF|ET|NR|RE|CN|TX|malformed HD|unreadable|unfinished|",
-        kinds::kind_of(packet_reader::packet_of(bytes, checked)),
+        b"RR|RF|AF|AT|CA|RT|SI|RI|HD|DT|EF|ET|NR|RE|CN|TX|malformed HD|unreadable|unfinished|\
+          line|malformed line|OK|OK with name|OK with kept count|malformed OK|NO|stop|display|other|data|",
+        number,
     );
-    print_length(bytes.len(), passed);
 }
 
-fn frame_number(frame: Frame) -> usize {
+pub fn packet_number(bytes: &[u8], checked: bool) -> usize {
+    kinds::kind_of(packet_reader::packet_of(bytes, checked))
+}
+
+fn line_number(frame: Frame) -> usize {
     match frame {
-        Frame::Basic(_) => 0,
-        Frame::Extended(_) => 0,
-        Frame::MalformedLine => 1,
-        Frame::OK => 2,
-        Frame::OKName(_) => 3,
-        Frame::OKKept(_) => 4,
-        Frame::MalformedOK => 5,
-        Frame::NO(_) => 6,
-        Frame::Stop => 7,
-        Frame::Display(_) => 8,
-        Frame::Other => 9,
+        Frame::Basic(_) => 19,
+        Frame::Extended(_) => 19,
+        Frame::MalformedLine => 20,
+        Frame::OK => 21,
+        Frame::OKName(_) => 22,
+        Frame::OKKept(_) => 23,
+        Frame::MalformedOK => 24,
+        Frame::NO(_) => 25,
+        Frame::Stop => 26,
+        Frame::Display(_) => 27,
+        Frame::Other => 28,
     }
 }
 
-// The place of a frame's word: 10 where it is of the file.
-fn frame_place(bytes: &[u8], is_data: bool) -> usize {
+// The number of a frame: 29 where it is of the file.
+pub fn frame_number(bytes: &[u8], is_data: bool) -> usize {
     if is_data {
-        return 10;
+        return 29;
     }
-    frame_number(line_reader::frame_of(bytes))
-}
-
-// A frame on its way.
-pub fn frame(arrow: u8, bytes: &[u8], is_data: bool, passed: usize) {
-    print_arrow(arrow);
-    put_word(
-        b"line|malformed line|OK|OK with name|OK with kept count|malformed OK|NO|stop|display|other|data|",
-        frame_place(bytes, is_data),
-    );
-    print_length(bytes.len(), passed);
+    line_number(line_reader::frame_of(bytes))
 }
 
 // How many bytes a record's answer has.

@@ -5,9 +5,17 @@ use crate::link::Saved;
 use crate::text;
 use fields::Stamp;
 use yapp_receiver::Receiver;
-use yapp_receiver::ReceiverAnswer;
 use yapp_sender::Sender;
 use yapp_sender::SenderAnswer;
+
+// The ends, the link, and what the receiver answered last: the first bytes of back.
+struct Ends {
+    sender: Sender,
+    receiver: Receiver,
+    link: Link,
+    answered: usize,
+    back: [u8; 259],
+}
 
 fn sender_number(sender: Sender) -> usize {
     text::sender_number(sender.state())
@@ -17,52 +25,60 @@ fn receiver_number(receiver: Receiver) -> usize {
     text::receiver_number(receiver.state())
 }
 
-// The sender takes what came; where nothing was sent to it, it has its chance to send.
-fn call_sender(
-    sender: Sender,
-    sent: usize,
-    came: &[u8],
-    file: &[u8],
-    out: &mut [u8],
-) -> SenderAnswer {
-    if sent == 0 {
-        return sender.transmit(file, out);
-    }
-    sender.receive(came, file, out)
+fn show_sender(before: Sender, after: Sender) {
+    text::moved(text::SENDER, sender_number(before), sender_number(after));
 }
 
-// What the receiver answered goes over the link to the sender, and the sender's step is shown.
-fn send(
-    sender: Sender,
-    link: Link,
-    answered: usize,
-    back: &[u8; 259],
-    file: &[u8],
-    out: &mut [u8; 259],
-) -> SenderAnswer {
-    let came = link::packet(link, b'<', false, back, answered);
-    let a = call_sender(sender, answered, came, file, out);
-    text::moved(text::SENDER, sender_number(sender), sender_number(a.sender));
-    a
-}
-
-// What the sender sent, if anything, goes over the link to the receiver, and the receiver's step is shown.
-fn take(
-    receiver: Receiver,
-    link: Link,
-    checks: bool,
-    sent: usize,
-    to: &[u8; 259],
-    area: &mut [u8],
-    out: &mut [u8; 259],
-) -> ReceiverAnswer {
-    let a = receiver.receive(link::packet(link, b'>', checks, to, sent), area, out);
+fn show_receiver(before: Receiver, after: Receiver) {
     text::moved(
         text::RECEIVER,
-        receiver_number(receiver),
-        receiver_number(a.receiver),
+        receiver_number(before),
+        receiver_number(after),
     );
-    a
+}
+
+// The sender takes what came over the link of the receiver's answer; where there was none, it has its chance to send.
+fn send(e: Ends, back: &[u8; 259], file: &[u8], out: &mut [u8; 259]) -> SenderAnswer {
+    if e.answered == 0 {
+        return e.sender.transmit(file, out);
+    }
+    let came = link::packet(
+        e.link,
+        text::RECEIVER,
+        false,
+        fields::part(back, 0, e.answered),
+    );
+    e.sender.receive(came, file, out)
+}
+
+// The ends behind the sender's answer: what it sent, if anything, goes over the link to the receiver.
+fn take(e: Ends, a: SenderAnswer, checks: bool, to: &[u8; 259], area: &mut [u8]) -> Ends {
+    let mut back = [0; 259];
+    let link = link::after(e.link, e.answered);
+    let came = link::packet(link, text::SENDER, checks, fields::part(to, 0, a.sent));
+    let b = e.receiver.receive(came, area, &mut back);
+    show_receiver(e.receiver, b.receiver);
+    let sender = a.sender;
+    let receiver = b.receiver;
+    Ends {
+        sender,
+        receiver,
+        link: link::after(link, a.sent),
+        answered: b.sent,
+        back,
+    }
+}
+
+fn turn(e: Ends, checks: bool, file: &[u8], area: &mut [u8]) -> Ends {
+    let back = e.back;
+    let mut to = [0; 259];
+    let a = send(e, &back, file, &mut to);
+    show_sender(e.sender, a.sender);
+    take(e, a, checks, &to, area)
+}
+
+fn is_over(e: Ends) -> bool {
+    link::is_over(e.link, sender_number(e.sender), receiver_number(e.receiver))
 }
 
 // The operator stops a sender whose link is broken: it ends when nothing answers.
@@ -71,36 +87,38 @@ fn end_sender(sender: Sender, file: &[u8]) {
     let out: &mut [u8] = &mut space;
     let a = sender.cancel(file, out);
     let b = a.sender.timeout(file, out);
-    let waiting = sender_number(a.sender);
-    text::moved(text::SENDER, sender_number(sender), waiting);
-    text::moved(text::SENDER, waiting, sender_number(b.sender));
+    show_sender(sender, a.sender);
+    show_sender(a.sender, b.sender);
 }
 
 fn time_out(receiver: Receiver, area: &[u8]) -> Receiver {
     let mut out = [0; 259];
     let a = receiver.timeout(area, &mut out);
-    text::moved(
-        text::RECEIVER,
-        receiver_number(receiver),
-        receiver_number(a.receiver),
-    );
+    show_receiver(receiver, a.receiver);
     a.receiver
 }
 
-// The timer of a receiver whose link is broken: it aborts, and ends when nothing answers. Its record's bytes then stand in bytes.
-fn end_receiver(receiver: Receiver, area: &[u8], bytes: &mut [u8]) -> Saved {
-    let ended = time_out(time_out(receiver, area), area);
+fn saved(receiver: Receiver) -> Saved {
+    let mut bytes = [0; 81];
+    let got = receiver.record(&mut bytes);
     Saved {
-        count: text::count_of(ended.record(bytes)),
-        whole: receiver_number(ended) == text::SUCCESS,
+        bytes,
+        count: text::count_of(got),
+        whole: receiver_number(receiver) == text::SUCCESS,
     }
 }
 
-fn receiver_of(kept: &[u8], room: usize, checks: bool) -> Receiver {
-    if kept.len() == 0 {
+// The timer of a receiver whose link is broken: it aborts, and ends when nothing answers.
+fn end_receiver(receiver: Receiver, area: &[u8]) -> Saved {
+    saved(time_out(time_out(receiver, area), area))
+}
+
+fn receiver_of(before: Saved, room: usize, checks: bool) -> Receiver {
+    let bytes = before.bytes;
+    if before.count == 0 {
         return Receiver::fresh(room, true, checks);
     }
-    Receiver::resume(kept, room, true, checks)
+    Receiver::resume(fields::part(&bytes, 0, before.count), room, true, checks)
 }
 
 fn stamp_of(checks: bool) -> Stamp {
@@ -110,37 +128,34 @@ fn stamp_of(checks: bool) -> Stamp {
     Stamp::Absent
 }
 
-// A session of a file; the record's bytes before it stand in bytes, and then those after it. An end that has ended takes no call any more.
+fn begin(before: Saved, checks: bool, name: &[u8], left: usize, size: usize, room: usize) -> Ends {
+    Ends {
+        sender: Sender::begin(name, size, 256, stamp_of(checks), true),
+        receiver: receiver_of(before, room, checks),
+        link: link::whole(left),
+        answered: 0,
+        back: [0; 259],
+    }
+}
+
+// A session of a file that goes on from what the one before left. An end that has ended takes no call any more.
 pub fn session(
-    bytes: &mut [u8],
-    count: usize,
+    before: Saved,
     checks: bool,
     name: &[u8],
     left: usize,
     file: &[u8],
     area: &mut [u8],
 ) -> Saved {
-    let mut receiver = receiver_of(fields::part(bytes, 0, count), area.len(), checks);
-    let mut sender = Sender::begin(name, file.len(), 256, stamp_of(checks), true);
-    let mut link = link::whole(left);
-    let mut to = [0; 259];
-    let mut back = [0; 259];
-    let mut answered = 0;
+    let mut e = begin(before, checks, name, left, file.len(), area.len());
     let mut rest = 200_000_000u32;
     while 0 < rest {
-        let at = sender_number(sender);
-        if link::is_over(link, at, receiver_number(receiver)) {
+        if is_over(e) {
             break;
         }
-        let a = send(sender, link, answered, &back, file, &mut to);
-        sender = a.sender;
-        link = link::after(link, answered);
-        let b = take(receiver, link, checks, a.sent, &to, area, &mut back);
-        receiver = b.receiver;
-        answered = b.sent;
-        link = link::after(link, a.sent);
+        e = turn(e, checks, file, area);
         rest -= 1;
     }
-    end_sender(sender, file);
-    end_receiver(receiver, area, bytes)
+    end_sender(e.sender, file);
+    end_receiver(e.receiver, area)
 }

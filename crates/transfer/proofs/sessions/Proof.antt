@@ -7,13 +7,13 @@ use Rattle.transfer.proofs.sessions.Statement.{statement}
 use Rattle.transfer.proofs.sessions.Tie as tie
 
 abbrev Inv-loop : tie.InvT-loop
-Inv-loop own seed name file area₀ bytes₀ state₀ count₀ number₀ area bytes state count number = length area ≡ length area₀
+Inv-loop own seed name file area₀ saved₀ state₀ number₀ area saved state number = length area ≡ length area₀
 
 abbrev μ-loop : tie.MeasureT-loop
-μ-loop own seed name file area₀ bytes₀ state₀ count₀ number₀ area bytes state count number = 5 - number
+μ-loop own seed name file area₀ saved₀ state₀ number₀ area saved state number = 5 - number
 
-slice-aggregate-bytes : tie.Need-slice-aggregate-bytes Inv-loop μ-loop
-slice-aggregate-bytes c = search needs
+nothing-requires : tie.Need-nothing-requires Inv-loop μ-loop
+nothing-requires c κs = search needs
 
 next-requires : tie.Need-next-requires Inv-loop μ-loop
 next-requires c κs = search needs
@@ -32,9 +32,6 @@ next-requires-2 c κs = search needs
 
 next-requires-3 : tie.Need-next-requires-3 Inv-loop μ-loop
 next-requires-3 c κs = search needs
-
-part-requires : tie.Need-part-requires Inv-loop μ-loop
-part-requires c κs = search needs
 
 print-record-requires : tie.Need-print-record-requires Inv-loop μ-loop
 print-record-requires c κs = search needs
@@ -66,14 +63,13 @@ sessions-spec =
     (tie.spec
     Inv-loop
     μ-loop
-    slice-aggregate-bytes
+    nothing-requires
     next-requires
     loop-holds
     add-loop
     session-requires
     next-requires-2
     next-requires-3
-    part-requires
     print-record-requires
     same-length
     returns
