@@ -103,18 +103,16 @@ fn is_ours(core: SenderCore, file: &[u8], kept: u32, crc: u16) -> bool
     ensures { λ r. ⌜ r ≡ (announcesResume (core .announce) && (leb kept (core .size) && eqb (crcOf (take kept (now (file .entry)))) crc)) ⌝ }
 {
     let announce = core.announce;
-    match announce {
-        Announce::Basic => false,
-        Announce::Extended { stamp: _, resumes } => {
-            if resumes {
-                if kept <= core.size {
-                    return crc::crc_of(fields::part(file, 0, kept as usize)) == crc;
-                }
-                return false;
-            }
-            false
+    let Announce::Extended { stamp: _, resumes } = announce else {
+        return false;
+    };
+    if resumes {
+        if kept <= core.size {
+            return crc::crc_of(fields::part(file, 0, kept as usize)) == crc;
         }
+        return false;
     }
+    false
 }
 
 // The third OK.

@@ -4,11 +4,14 @@ use borrow.Author.Needs.{needs}
 use Rattle.bin_sending.proofs.is_ours.Statement.{statement}
 use Rattle.bin_sending.proofs.is_ours.Tie as tie
 
+enum-known-announce : tie.Need-enum-known-announce
+enum-known-announce c = search needs
+
 enum-told : tie.Need-enum-told
 enum-told c = search needs
 
-enum-known-announce : tie.Need-enum-known-announce
-enum-known-announce c = search needs
+returns : tie.Need-returns
+returns c = search needs
 
 part-requires : tie.Need-part-requires
 part-requires c κs = search needs
@@ -16,14 +19,11 @@ part-requires c κs = search needs
 crc-of-requires : tie.Need-crc-of-requires
 crc-of-requires c κs = search needs
 
-returns : tie.Need-returns
-returns c = rw (c .before .before .before .before .before .before .announce .given .1, c .before .before .before .before .if1 .taken, le-leb _ _ (c .before .before .if2 .taken), c .crc-of .ensures, c .before .part .ensures)
-
 returns-2 : tie.Need-returns-2
-returns-2 c = rw (c .before .before .before .before .announce .given .1, c .before .before .if1 .taken, lt-leb _ _ (c .if2 .left))
+returns-2 c = rw (c .before .before .before .before .before .before .announce .given .1, c .before .before .before .before .if1 .taken, le-leb _ _ (c .before .before .if2 .taken), c .crc-of .ensures, c .before .part .ensures)
 
 returns-3 : tie.Need-returns-3
-returns-3 c = search needs
+returns-3 c = rw (c .before .before .before .before .announce .given .1, c .before .before .if1 .taken, lt-leb _ _ (c .if2 .left))
 
 returns-4 : tie.Need-returns-4
 returns-4 c = search needs
@@ -32,11 +32,11 @@ pub is-ours-spec : {M : Type 1} → statement M
 is-ours-spec =
     tie.close
     (tie.spec
-    enum-told
     enum-known-announce
+    enum-told
+    returns
     part-requires
     crc-of-requires
-    returns
     returns-2
     returns-3
     returns-4)
