@@ -70,8 +70,8 @@ module _ (w : World) (t : Settings) where
   -- a call that is fairly made leaves what holds
   abbrev Served : Bool → Act → Config → Type 0
   Served b a c =
-      (reply : List ℕ) (lent : Option (List ℕ)) → Fair lent (statusIn w (made w a c reply lent))
-      → Holds b (stepBy w c lent (made w a c reply lent))
+      (reply : List ℕ) (lent handed : Option (List ℕ)) → Fair lent handed (statusIn w (made w a c reply lent handed))
+      → Holds b (stepBy w c lent (made w a c reply lent handed))
 
   -- a refused call leaves the way as it is
   abbrev Stays : (Status → List (List ℕ)) → List (List ℕ) → Type 0
@@ -93,54 +93,55 @@ module _ (w : World) (t : Settings) where
     abbrev answerR : Place → ReceiverMove → List ℕ → List ℕ → Status → receiver.ReceiverAfter
     answerR shown a lent reply x = receiver.unlessRefused x (receiverAt w r v arr) lent reply (receiver.replied (receiverAt w r v arr) shown a reply)
 
-    -- a call at the sender, which moves by the file that is lent
-    sender-call : (move : List ℕ → SenderMove) (left : Status → List (List ℕ)) (reply : List ℕ) (lent : Option (List ℕ)) (x : Status)
-        → Fair lent (answerS (move (lentOr (w .file) lent)) reply x .answer .status)
-        → Stays left ls → Inv w (move (w .file) .state) r v (sentTo lr (move (w .file) .out) reply) (left Taken) o
-        → Holds o (stepS now (left (answerS (move (lentOr (w .file) lent)) reply x .answer .status))
-        (answerS (move (lentOr (w .file) lent)) reply x))
-    sender-call move left reply _ Taken own q j = holds (record { array = n .array; tied = n .tied; inv = j; stored = n .stored })
-    sender-call move left reply lent Taken (refused x) q j = absurd (x refl)
-    sender-call move left reply lent Over f q j = rw (q .0) (holds n)
-    sender-call move left reply lent LongFrame f q j = rw (q .1) (holds n)
-    sender-call move left reply lent SmallReply f q j = rw (q .2) (holds n)
-    sender-call move left reply lent WrongLength f q j = rw (q .3) (holds n)
+    -- a call at the sender, which moves by the frame that is handed over and the file that is lent
+    sender-call : (move : Option (List ℕ) → List ℕ → SenderMove) (left : Status → List (List ℕ)) (reply : List ℕ) (lent handed : Option (List ℕ)) (x : Status)
+        → Fair lent handed (answerS (move handed (lentOr (w .file) lent)) reply x .answer .status)
+        → Stays left ls → Inv w (move none (w .file) .state) r v (sentTo lr (move none (w .file) .out) reply) (left Taken) o
+        → Holds o (stepS now (left (answerS (move handed (lentOr (w .file) lent)) reply x .answer .status))
+        (answerS (move handed (lentOr (w .file) lent)) reply x))
+    sender-call move left reply _ _ Taken own q j = holds (record { array = n .array; tied = n .tied; inv = j; stored = n .stored })
+    sender-call move left reply lent handed Taken (refused x) q j = absurd (x refl)
+    sender-call move left reply lent handed Over f q j = rw (q .0) (holds n)
+    sender-call move left reply lent handed LongFrame f q j = rw (q .1) (holds n)
+    sender-call move left reply lent handed SmallReply f q j = rw (q .2) (holds n)
+    sender-call move left reply lent handed WrongLength f q j = rw (q .3) (holds n)
 
     refused-call : (reply : List ℕ) (lent : Option (List ℕ)) (x : Status)
         → Holds o (stepR now lr lent (receiver.refusedCall (receiverAt w r v arr) x (lentOr area lent) reply))
     refused-call reply lent x = rw (back area lent, add-zero tally) (holds n)
 
-    -- a call at the receiver, which moves by the area that is lent
-    receiver-call : (move : List ℕ → ReceiverMove) (shown : Place) (left : Status → List (List ℕ)) (reply : List ℕ) (lent : Option (List ℕ)) (x : Status)
-        → Fair lent (answerR shown (move (lentOr area lent)) (lentOr area lent) reply x .answer .status)
-        → Stays left lr → TakenOn w reply area tally s (move area) (left Taken) ls o
-        → Holds o (stepR now (left (answerR shown (move (lentOr area lent)) (lentOr area lent) reply x .answer .status)) lent
-        (answerR shown (move (lentOr area lent)) (lentOr area lent) reply x))
-    receiver-call move shown left reply _ Taken own q j =
-        let l = name-short w (move area .saved) (j .stored .ours) in
+    -- a call at the receiver, which moves by the frame that is handed over and the area that is lent
+    receiver-call : (move : Option (List ℕ) → List ℕ → ReceiverMove) (shown : Option (List ℕ) → Place) (left : Status → List (List ℕ)) (reply : List ℕ)
+        (lent handed : Option (List ℕ)) (x : Status)
+        → Fair lent handed (answerR (shown handed) (move handed (lentOr area lent)) (lentOr area lent) reply x .answer .status)
+        → Stays left lr → TakenOn w reply area tally s (move none area) (left Taken) ls o
+        → Holds o (stepR now (left (answerR (shown handed) (move handed (lentOr area lent)) (lentOr area lent) reply x .answer .status)) lent
+        (answerR (shown handed) (move handed (lentOr area lent)) (lentOr area lent) reply x))
+    receiver-call move shown left reply _ _ Taken own q j =
+        let l = name-short w (move none area .saved) (j .stored .ours) in
         holds (record {
-          array = name-room (nameOf (move area .saved)) arr (n .array) l;
-          tied = saved-back (move area .saved) arr (n .array) l;
+          array = name-room (nameOf (move none area .saved)) arr (n .array) l;
+          tied = saved-back (move none area .saved) arr (n .array) l;
           inv = j .inv;
           stored = j .stored;
         })
-    receiver-call move shown left reply lent Taken (refused x) q j = absurd (x refl)
-    receiver-call move shown left reply lent Over f q j = rw (q .0) (refused-call reply lent Over)
-    receiver-call move shown left reply lent LongFrame f q j = rw (q .1) (refused-call reply lent LongFrame)
-    receiver-call move shown left reply lent SmallReply f q j = rw (q .2) (refused-call reply lent SmallReply)
-    receiver-call move shown left reply lent WrongLength f q j = rw (q .3) (refused-call reply lent WrongLength)
+    receiver-call move shown left reply lent handed Taken (refused x) q j = absurd (x refl)
+    receiver-call move shown left reply lent handed Over f q j = rw (q .0) (refused-call reply lent Over)
+    receiver-call move shown left reply lent handed LongFrame f q j = rw (q .1) (refused-call reply lent LongFrame)
+    receiver-call move shown left reply lent handed SmallReply f q j = rw (q .2) (refused-call reply lent SmallReply)
+    receiver-call move shown left reply lent handed WrongLength f q j = rw (q .3) (refused-call reply lent WrongLength)
 
     -- ---- the calls
     serve-transmitS : Served o transmitS now
     unfolding transmit
-    serve-transmitS reply lent f =
-        sender-call (λ (file : List ℕ). senderLeaves (sender.settingsOf (senderAt w t s)) file s) (λ (x : Status). ls) reply lent
+    serve-transmitS reply lent handed f =
+        sender-call (λ (g : Option (List ℕ)) (file : List ℕ). senderLeaves (sender.settingsOf (senderAt w t s)) file s) (λ (x : Status). ls) reply lent handed
         (sender.statusOf (senderAt w t s) 0 (lentOr (w .file) lent) reply) f (refl, refl, refl, refl)
         (rw (settings-are w t s) (inv-leaves w t reply (n .inv)))
 
     serve-transmitR : Served o transmitR now
     unfolding receiver.transmit
-    serve-transmitR reply lent f = refused-call reply lent (receiver.statusOf (receiverAt w r v arr) 0 (lentOr area lent) reply)
+    serve-transmitR reply lent handed f = refused-call reply lent (receiver.statusOf (receiverAt w r v arr) 0 (lentOr area lent) reply)
 
   -- the front frame arrives, if there is one
   front-S : {o : Bool} {s : SenderState} {r : ReceiverState} {v : Option Saved} {lr : List (List ℕ)} (ls : List (List ℕ)) (reply : List ℕ) → Inv w s r v lr ls o
@@ -160,45 +161,46 @@ module _ (w : World) (t : Settings) where
       (n : Now o s r v arr area lr ls tally) (k : ℕ) where
     serve-receiveS : Served o (receiveS k) (now n)
     unfolding sender.receive
-    serve-receiveS reply lent f =
-        sender-call n (λ (file : List ℕ). senderTakes (sender.settingsOf (senderAt w t s)) file s (front ls)) (λ (x : Status). leftBy x ls) reply lent
-        (sender.statusOf (senderAt w t s) (length (front ls)) (lentOr (w .file) lent) reply) f (refl, refl, refl, refl)
+    serve-receiveS reply lent handed f =
+        sender-call n (λ (g : Option (List ℕ)) (file : List ℕ). senderTakes (sender.settingsOf (senderAt w t s)) file s (lentOr (front ls) g)) (λ (x : Status). leftBy x ls) reply lent handed
+        (sender.statusOf (senderAt w t s) (length (lentOr (front ls) handed)) (lentOr (w .file) lent) reply) f (refl, refl, refl, refl)
         (rw (settings-are w t s) (front-S ls reply (n .inv)))
 
     serve-receiveR : Served o (receiveR k) (now n)
     unfolding receive
-    serve-receiveR reply lent f =
-        receiver-call n (λ (a : List ℕ). receiverTakes (ourRoom w) r (savedBy (keepingOf v) arr) a (front lr)) (receiver.shownIn r (front lr)) (λ (x : Status). leftBy x lr) reply lent
-        (receiver.statusOf (receiverAt w r v arr) (length (front lr)) (lentOr area lent) reply) f (refl, refl, refl, refl)
+    serve-receiveR reply lent handed f =
+        receiver-call n (λ (g : Option (List ℕ)) (a : List ℕ). receiverTakes (ourRoom w) r (savedBy (keepingOf v) arr) a (lentOr (front lr) g))
+        (λ (g : Option (List ℕ)). receiver.shownIn r (lentOr (front lr) g)) (λ (x : Status). leftBy x lr) reply lent handed
+        (receiver.statusOf (receiverAt w r v arr) (length (lentOr (front lr) handed)) (lentOr area lent) reply) f (refl, refl, refl, refl)
         (rw (n .tied) (front-R lr reply area tally (n .inv) (n .stored)))
 
   module _ {s : SenderState} {r : ReceiverState} {v : Option Saved} {arr area : List ℕ} {lr ls : List (List ℕ)} {tally : ℕ}
       (n : Now false s r v arr area lr ls tally) where
     serve-timeoutS : Served false timeoutS (now n)
     unfolding sender.timeout
-    serve-timeoutS reply lent f =
-        sender-call n (λ (file : List ℕ). senderFails TimedOut s) (λ (x : Status). ls) reply lent
+    serve-timeoutS reply lent handed f =
+        sender-call n (λ (g : Option (List ℕ)) (file : List ℕ). senderFails TimedOut s) (λ (x : Status). ls) reply lent handed
         (sender.statusOf (senderAt w t s) 0 (lentOr (w .file) lent) reply) f (refl, refl, refl, refl)
         (inv-failsS w t reply TimedOut (n .inv))
 
     serve-cancelS : Served false cancelS (now n)
     unfolding sender.cancel
-    serve-cancelS reply lent f =
-        sender-call n (λ (file : List ℕ). senderFails Stopped s) (λ (x : Status). ls) reply lent
+    serve-cancelS reply lent handed f =
+        sender-call n (λ (g : Option (List ℕ)) (file : List ℕ). senderFails Stopped s) (λ (x : Status). ls) reply lent handed
         (sender.statusOf (senderAt w t s) 0 (lentOr (w .file) lent) reply) f (refl, refl, refl, refl)
         (inv-failsS w t reply Stopped (n .inv))
 
     serve-timeoutR : Served false timeoutR (now n)
     unfolding receiver.timeout
-    serve-timeoutR reply lent f =
-        receiver-call n (λ (a : List ℕ). receiverFails TimedOut r (savedBy (keepingOf v) arr) a) receiver.nowhere (λ (x : Status). lr) reply lent
+    serve-timeoutR reply lent handed f =
+        receiver-call n (λ (g : Option (List ℕ)) (a : List ℕ). receiverFails TimedOut r (savedBy (keepingOf v) arr) a) (λ (g : Option (List ℕ)). receiver.nowhere) (λ (x : Status). lr) reply lent handed
         (receiver.statusOf (receiverAt w r v arr) 0 (lentOr area lent) reply) f (refl, refl, refl, refl)
         (rw (n .tied) (inv-failsR w reply area tally TimedOut r v (n .stored)))
 
     serve-cancelR : Served false cancelR (now n)
     unfolding receiver.cancel
-    serve-cancelR reply lent f =
-        receiver-call n (λ (a : List ℕ). receiverFails Stopped r (savedBy (keepingOf v) arr) a) receiver.nowhere (λ (x : Status). lr) reply lent
+    serve-cancelR reply lent handed f =
+        receiver-call n (λ (g : Option (List ℕ)) (a : List ℕ). receiverFails Stopped r (savedBy (keepingOf v) arr) a) (λ (g : Option (List ℕ)). receiver.nowhere) (λ (x : Status). lr) reply lent handed
         (receiver.statusOf (receiverAt w r v arr) 0 (lentOr area lent) reply) f (refl, refl, refl, refl)
         (rw (n .tied) (inv-failsR w reply area tally Stopped r v (n .stored)))
 
@@ -224,11 +226,11 @@ module _ (w : World) (t : Settings) where
 
   all-served : (ks : List Call) (c : Config) → Holds false c → Fairly w ks c → Holds false (runs w ks c)
   all-served [] c h f = h
-  all-served (k ∷ ks) c h f = all-served ks (step w k c) (serve (k .act) h (k .reply) (k .lent) (f .0)) (f .1)
+  all-served (k ∷ ks) c h f = all-served ks (step w k c) (serve (k .act) h (k .reply) (k .lent) (k .handed) (f .0)) (f .1)
 
   all-calm : (ks : List Call) (c : Config) → AllCalm ks → Holds true c → Fairly w ks c → Holds true (runs w ks c)
   all-calm [] c q h f = h
-  all-calm (k ∷ ks) c q h f = all-calm ks (step w k c) (q .1) (serve-calm (k .act) (q .0) h (k .reply) (k .lent) (f .0)) (f .1)
+  all-calm (k ∷ ks) c q h f = all-calm ks (step w k c) (q .1) (serve-calm (k .act) (q .0) h (k .reply) (k .lent) (k .handed) (f .0)) (f .1)
 
   -- ---- the beginning
 

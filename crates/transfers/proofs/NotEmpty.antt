@@ -24,7 +24,7 @@ use Rattle.records.specs.Record as record-read
 use Rattle.records.specs.Saved as saved
 use Rattle.lines.specs.Frame as frame
 use Rattle.lines.specs.Element as element
-use Rattle.calls.specs.declared.Status.the-variants.{Taken, SmallReply}
+use Rattle.calls.specs.declared.Status.the-variants.{Taken, LongFrame, SmallReply}
 use Rattle.calls.specs.Checks.{checkOf}
 use Rattle.calls.specs.Numbers.{statusNumber}
 use Rattle.yapp.specs.Steps as ysteps
@@ -83,13 +83,17 @@ w = record {
   fits = lit≤ tt;
 }
 
--- a call that gets its own file or area and room for a reply
+-- a call that gets its own file or area, what is on the way, and room for a reply
 abbrev pub made : Act → Call
-made a = record { act = a; reply = replicate 259 0; lent = none }
+made a = record { act = a; reply = replicate 259 0; lent = none; handed = none }
 
--- a call that gets another area and a reply buffer of three bytes: it is refused
+-- a call that gets another area, bytes that nobody sent and a reply buffer of three bytes: it is refused (20)
 abbrev pub small : Call
-small = record { act = receiveR 300; reply = replicate 3 0; lent = some (8 ∷ 8 ∷ []) }
+small = record { act = receiveR 300; reply = replicate 3 0; lent = some (8 ∷ 8 ∷ []); handed = some (7 ∷ 7 ∷ []) }
+
+-- a call that is handed a frame of 257 bytes: it is refused (19)
+abbrev pub long : Call
+long = record { act = receiveR 300; reply = replicate 259 0; lent = none; handed = some (replicate 257 0) }
 
 -- by YAPP with checksums and blocks of two bytes: the first packet comes in two chunks, a call before the header is taken is refused, and
 -- the session breaks off in the data
@@ -102,12 +106,12 @@ broken =
     (made transmitS ∷ made (receiveR 1) ∷ made (receiveR 300) ∷ made (receiveS 300) ∷ small ∷ made (receiveR 300) ∷ made (receiveS 300)
     ∷ made transmitS ∷ made (receiveR 300) ∷ [])
 
--- by extended #BIN#, run to its end
+-- by extended #BIN#: a call is refused while the line is on the way, and the session is run to its end
 abbrev pub settingsB : bin.Settings
 settingsB = record { block = 2; block-some = lit≤ tt; block-most = lit≤ tt; stamp = 7; stamp-fits = lit≤ tt }
 
 abbrev pub calls : List Call
-calls = made transmitS ∷ made (receiveR 300) ∷ made (receiveS 300) ∷ made transmitS ∷ made (receiveR 300) ∷ []
+calls = made transmitS ∷ long ∷ made (receiveR 300) ∷ made (receiveS 300) ∷ made transmitS ∷ made (receiveR 300) ∷ []
 
 abbrev pub ending : Session
 ending = byBin settingsB calls
@@ -136,17 +140,21 @@ broken-left = (refl, (refl, (refl, refl)))
 
 -- ---- the premises
 
-is-refused : SmallReply ≡ Taken → ⊥
+is-small : SmallReply ≡ Taken → ⊥
 unfolding statusNumber
-is-refused e = let z : _≡_ {A = ℕ} 20 0 = ap statusNumber e in absurd (omega arith)
+is-small e = let z : _≡_ {A = ℕ} 20 0 = ap statusNumber e in absurd (omega arith)
+
+is-long : LongFrame ≡ Taken → ⊥
+unfolding statusNumber
+is-long e = let z : _≡_ {A = ℕ} 19 0 = ap statusNumber e in absurd (omega arith)
 
 pub fair : FairAll w (broken ∷ []) (first w)
 unfolding opened
-fair = ((yapp.own, (yapp.own, (yapp.own, (yapp.own, (yapp.refused is-refused, (yapp.own, (yapp.own, (yapp.own, (yapp.own, tt))))))))), tt)
+fair = ((yapp.own, (yapp.own, (yapp.own, (yapp.own, (yapp.refused is-small, (yapp.own, (yapp.own, (yapp.own, (yapp.own, tt))))))))), tt)
 
 pub fair-last : FairIn w ending left
 unfolding opened
-fair-last = (bin.own, (bin.own, (bin.own, (bin.own, (bin.own, tt)))))
+fair-last = (bin.own, (bin.refused is-long, (bin.own, (bin.own, (bin.own, (bin.own, tt))))))
 
 -- a leave sends nothing: an ended sender refuses it, and a receiver sends nothing at any
 silent-S : (m : Sender) (own reply : List ℕ) → bsteps.senderEnded (m .core .state) ≡ true → bsender.transmit m own reply .answer .sent ≡ 0
@@ -160,7 +168,7 @@ silent-R m own reply = refl
 pub ends : Ends w ending left
 unfolding opened
 ends = (
-  (tt, (tt, (tt, (tt, (tt, tt))))),
+  (tt, (tt, (tt, (tt, (tt, (tt, tt)))))),
   record {
     to-sender = inl refl;
     to-receiver = inl refl;

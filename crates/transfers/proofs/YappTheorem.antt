@@ -131,117 +131,121 @@ module _ (w : World) (t : Settings) where
     by-status-R SmallReply lent reply a g = refused-R lent SmallReply reply
     by-status-R WrongLength lent reply a g = refused-R lent WrongLength reply
 
-  -- a call that is lent its own, or refused: a is what it answers if it is taken
-  by-serving-S : {o : Bool} (c : Config) (reply : List ℕ) {lent : Option (List ℕ)} (s : Status) {z : Status} (a : Option (List ℕ) → SenderAfter)
-      → Fair lent z → unlessRefused s (c .snd) reply (a lent) .answer .status ≡ z → a lent .answer .status ≡ Taken → Holds o c
-      → Holds o (stepS c (a none)) → Holds o (stepS c (unlessRefused s (c .snd) reply (a lent)))
-  by-serving-S c reply s a own e q h g = by-status-S c h s reply (a none) (λ x. g)
-  by-serving-S c reply {lent} s a (refused n) e q h g = by-status-S c h s reply (a lent) (λ (x : s ≡ Taken). absurd (n (sym (rw x at e) ∙ q)))
+  -- a call that is lent its own and handed what is on the way, or refused: a is what it answers if it is taken
+  by-serving-S : {o : Bool} (c : Config) (reply : List ℕ) {lent handed : Option (List ℕ)} (s : Status) {z : Status}
+      (a : Option (List ℕ) → Option (List ℕ) → SenderAfter) → Fair lent handed z → unlessRefused s (c .snd) reply (a lent handed) .answer .status ≡ z
+      → a lent handed .answer .status ≡ Taken → Holds o c → Holds o (stepS c (a none none))
+      → Holds o (stepS c (unlessRefused s (c .snd) reply (a lent handed)))
+  by-serving-S c reply s a own e q h g = by-status-S c h s reply (a none none) (λ x. g)
+  by-serving-S c reply {lent} {handed} s a (refused n) e q h g =
+      by-status-S c h s reply (a lent handed) (λ (x : s ≡ Taken). absurd (n (sym (rw x at e) ∙ q)))
 
-  by-serving-R : {o : Bool} (c : Config) (reply : List ℕ) {lent : Option (List ℕ)} (s : Status) {z : Status} (a : Option (List ℕ) → ReceiverAfter)
-      → Fair lent z → unlessR s (c .rcv) (lentOr (c .area) lent) reply (a lent) .answer .status ≡ z → a lent .answer .status ≡ Taken → Holds o c
-      → Holds o (stepR c none (a none)) → Holds o (stepR c lent (unlessR s (c .rcv) (lentOr (c .area) lent) reply (a lent)))
-  by-serving-R c reply s a own e q h g = by-status-R c h s none reply (a none) (λ x. g)
-  by-serving-R c reply {lent} s a (refused n) e q h g = by-status-R c h s lent reply (a lent) (λ (x : s ≡ Taken). absurd (n (sym (rw x at e) ∙ q)))
+  by-serving-R : {o : Bool} (c : Config) (reply : List ℕ) {lent handed : Option (List ℕ)} (s : Status) {z : Status}
+      (a : Option (List ℕ) → Option (List ℕ) → ReceiverAfter) → Fair lent handed z
+      → unlessR s (c .rcv) (lentOr (c .area) lent) reply (a lent handed) .answer .status ≡ z → a lent handed .answer .status ≡ Taken → Holds o c
+      → Holds o (stepR c none (a none none)) → Holds o (stepR c lent (unlessR s (c .rcv) (lentOr (c .area) lent) reply (a lent handed)))
+  by-serving-R c reply s a own e q h g = by-status-R c h s none reply (a none none) (λ x. g)
+  by-serving-R c reply {lent} {handed} s a (refused n) e q h g =
+      by-status-R c h s lent reply (a lent handed) (λ (x : s ≡ Taken). absurd (n (sym (rw x at e) ∙ q)))
 
   -- ---- every call
 
   module _ (c : Config) where
     -- what each call answers that is not refused
-    abbrev leavesS : List ℕ → Option (List ℕ) → SenderAfter
-    leavesS reply l =
+    abbrev leavesS : List ℕ → Option (List ℕ) → Option (List ℕ) → SenderAfter
+    leavesS reply l x =
         replied (c .snd) (c .snd .reader) 0 nowhere
         (senderLeaves (settingsOf (c .snd)) (lentOr (w .file) l) (c .snd .core .state) (c .snd .reader .checked)) reply
 
-    abbrev timesS : List ℕ → Option (List ℕ) → SenderAfter
-    timesS reply l = replied (c .snd) (c .snd .reader) 0 nowhere (senderTimes (c .snd .core .state) (c .snd .reader .checked)) reply
+    abbrev timesS : List ℕ → Option (List ℕ) → Option (List ℕ) → SenderAfter
+    timesS reply l x = replied (c .snd) (c .snd .reader) 0 nowhere (senderTimes (c .snd .core .state) (c .snd .reader .checked)) reply
 
-    abbrev stopsS : List ℕ → Option (List ℕ) → SenderAfter
-    stopsS reply l = replied (c .snd) (c .snd .reader) 0 nowhere (senderStops (c .snd .core .state) (c .snd .reader .checked)) reply
+    abbrev stopsS : List ℕ → Option (List ℕ) → Option (List ℕ) → SenderAfter
+    stopsS reply l x = replied (c .snd) (c .snd .reader) 0 nowhere (senderStops (c .snd .core .state) (c .snd .reader .checked)) reply
 
-    abbrev hearsS : ℕ → List ℕ → Option (List ℕ) → SenderAfter
-    hearsS n reply l = arrived (c .snd) (reads (c .snd .reader) (take n (c .toS))) reply
+    abbrev hearsS : ℕ → List ℕ → Option (List ℕ) → Option (List ℕ) → SenderAfter
+    hearsS n reply l x = arrived (c .snd) (reads (c .snd .reader) (lentOr (take n (c .toS)) x)) reply
 
-    abbrev timesR : List ℕ → Option (List ℕ) → ReceiverAfter
-    timesR reply l = repliedR (c .rcv) (c .rcv .reader) 0 (receiverTimes (nowOf (c .rcv)) (lentOr (c .area) l) (c .rcv .core .state)) reply
+    abbrev timesR : List ℕ → Option (List ℕ) → Option (List ℕ) → ReceiverAfter
+    timesR reply l x = repliedR (c .rcv) (c .rcv .reader) 0 (receiverTimes (nowOf (c .rcv)) (lentOr (c .area) l) (c .rcv .core .state)) reply
 
-    abbrev stopsR : List ℕ → Option (List ℕ) → ReceiverAfter
-    stopsR reply l = repliedR (c .rcv) (c .rcv .reader) 0 (receiverStops (nowOf (c .rcv)) (lentOr (c .area) l) (c .rcv .core .state)) reply
+    abbrev stopsR : List ℕ → Option (List ℕ) → Option (List ℕ) → ReceiverAfter
+    stopsR reply l x = repliedR (c .rcv) (c .rcv .reader) 0 (receiverStops (nowOf (c .rcv)) (lentOr (c .area) l) (c .rcv .core .state)) reply
 
     abbrev arrivesR : Received → List ℕ → Option (List ℕ) → ReceiverAfter
     arrivesR g reply l =
         repliedR (c .rcv) (g .reader) (g .taken) (receiverTakes (settingsR (c .rcv)) (nowOf (c .rcv)) (lentOr (c .area) l) (heard g)) reply
 
-    abbrev hearsR : ℕ → List ℕ → Option (List ℕ) → ReceiverAfter
-    hearsR n reply l = arrivesR (reads (c .rcv .reader) (take n (c .toR))) reply l
+    abbrev hearsR : ℕ → List ℕ → Option (List ℕ) → Option (List ℕ) → ReceiverAfter
+    hearsR n reply l x = arrivesR (reads (c .rcv .reader) (lentOr (take n (c .toR)) x)) reply l
 
   module _ {o : Bool} (c : Config) (h : Holds o c) where
-    leaves-S : (reply : List ℕ) → Holds o (stepS c (leavesS c reply none))
+    leaves-S : (reply : List ℕ) → Holds o (stepS c (leavesS c reply none none))
     leaves-S reply = rw (h .sender-set) (moved-S c h (c .snd .reader) 0 nowhere _ reply (wire-leaves w t _ _ _ _ _ _ _ (h .inv)))
 
-    hears-S : (n : ℕ) (reply : List ℕ) → Holds o (stepS c (hearsS c n reply none))
+    hears-S : (n : ℕ) (reply : List ℕ) → Holds o (stepS c (hearsS c n reply none none))
     hears-S n reply =
         let g = reads (c .snd .reader) (take n (c .toS)) in
         rw (h .sender-set)
         (moved-S c h (g .reader) (g .taken) (shownIn (c .snd .core .state) (heard g) g) _ reply (wire-heard w t _ _ _ _ _ _ _ n (h .inv)))
 
-    times-S : (reply : List ℕ) → Holds false (stepS c (timesS c reply none))
+    times-S : (reply : List ℕ) → Holds false (stepS c (timesS c reply none none))
     times-S reply = moved-S c h (c .snd .reader) 0 nowhere _ reply (wire-times w t _ _ _ _ _ _ _ (h .inv))
 
-    stops-S : (reply : List ℕ) → Holds false (stepS c (stopsS c reply none))
+    stops-S : (reply : List ℕ) → Holds false (stepS c (stopsS c reply none none))
     stops-S reply = moved-S c h (c .snd .reader) 0 nowhere _ reply (wire-stops w t _ _ _ _ _ _ _ (h .inv))
 
-    hears-R : (n : ℕ) (reply : List ℕ) → Holds o (stepR c none (hearsR c n reply none))
+    hears-R : (n : ℕ) (reply : List ℕ) → Holds o (stepR c none (hearsR c n reply none none))
     hears-R n reply =
         let g = reads (c .rcv .reader) (take n (c .toR)) in
         rw (h .receiver-set) (moved-R c h (g .reader) (g .taken) _ reply (wire-came w t _ _ _ _ _ _ _ (c .area) (c .tally) (h .kept) n (h .inv)))
 
-    times-R : (reply : List ℕ) → Holds false (stepR c none (timesR c reply none))
+    times-R : (reply : List ℕ) → Holds false (stepR c none (timesR c reply none none))
     times-R reply = moved-R c h (c .rcv .reader) 0 _ reply (wire-timesR w t _ _ _ _ _ _ _ (c .area) (c .tally) (h .kept))
 
-    stops-R : (reply : List ℕ) → Holds false (stepR c none (stopsR c reply none))
+    stops-R : (reply : List ℕ) → Holds false (stepR c none (stopsR c reply none none))
     stops-R reply = moved-R c h (c .rcv .reader) 0 _ reply (wire-stopsR w t _ _ _ _ _ _ _ (c .area) (c .tally) (h .kept))
 
-    pub calm-step : (act : Act) (reply : List ℕ) (lent : Option (List ℕ)) → Calm act → Fair lent (statusIn w (made w act c reply lent))
-        → Holds o (stepBy w c lent (made w act c reply lent))
+    pub calm-step : (act : Act) (reply : List ℕ) (lent handed : Option (List ℕ)) → Calm act
+        → Fair lent handed (statusIn w (made w act c reply lent handed)) → Holds o (stepBy w c lent (made w act c reply lent handed))
     unfolding transmit receive transmitR′ receiveR′
-    calm-step transmitS reply lent q f =
+    calm-step transmitS reply lent handed q f =
         by-serving-S c reply (statusOf (c .snd) (lentOr (w .file) lent) reply) (leavesS c reply) f refl refl h (leaves-S reply)
-    calm-step (receiveS n) reply lent q f =
+    calm-step (receiveS n) reply lent handed q f =
         by-serving-S c reply (statusOf (c .snd) (lentOr (w .file) lent) reply) (hearsS c n reply) f refl refl h (hears-S n reply)
-    calm-step timeoutS reply lent q f = absurd q
-    calm-step cancelS reply lent q f = absurd q
-    calm-step transmitR reply lent q f = refused-R c h lent (statusR (c .rcv) (lentOr (c .area) lent) reply) reply
-    calm-step (receiveR n) reply lent q f =
+    calm-step timeoutS reply lent handed q f = absurd q
+    calm-step cancelS reply lent handed q f = absurd q
+    calm-step transmitR reply lent handed q f = refused-R c h lent (statusR (c .rcv) (lentOr (c .area) lent) reply) reply
+    calm-step (receiveR n) reply lent handed q f =
         by-serving-R c reply (statusR (c .rcv) (lentOr (c .area) lent) reply) (hearsR c n reply) f refl refl h (hears-R n reply)
-    calm-step timeoutR reply lent q f = absurd q
-    calm-step cancelR reply lent q f = absurd q
+    calm-step timeoutR reply lent handed q f = absurd q
+    calm-step cancelR reply lent handed q f = absurd q
 
-  pub any-step : (c : Config) → Holds false c → (act : Act) (reply : List ℕ) (lent : Option (List ℕ)) → Fair lent (statusIn w (made w act c reply lent))
-      → Holds false (stepBy w c lent (made w act c reply lent))
+  pub any-step : (c : Config) → Holds false c → (act : Act) (reply : List ℕ) (lent handed : Option (List ℕ))
+      → Fair lent handed (statusIn w (made w act c reply lent handed)) → Holds false (stepBy w c lent (made w act c reply lent handed))
   unfolding timeout cancel timeoutR′ cancelR′
-  any-step c h transmitS reply lent f = calm-step c h transmitS reply lent tt f
-  any-step c h (receiveS n) reply lent f = calm-step c h (receiveS n) reply lent tt f
-  any-step c h timeoutS reply lent f =
+  any-step c h transmitS reply lent handed f = calm-step c h transmitS reply lent handed tt f
+  any-step c h (receiveS n) reply lent handed f = calm-step c h (receiveS n) reply lent handed tt f
+  any-step c h timeoutS reply lent handed f =
       by-serving-S c reply (statusOf (c .snd) (lentOr (w .file) lent) reply) (timesS c reply) f refl refl h (times-S c h reply)
-  any-step c h cancelS reply lent f =
+  any-step c h cancelS reply lent handed f =
       by-serving-S c reply (statusOf (c .snd) (lentOr (w .file) lent) reply) (stopsS c reply) f refl refl h (stops-S c h reply)
-  any-step c h transmitR reply lent f = calm-step c h transmitR reply lent tt f
-  any-step c h (receiveR n) reply lent f = calm-step c h (receiveR n) reply lent tt f
-  any-step c h timeoutR reply lent f =
+  any-step c h transmitR reply lent handed f = calm-step c h transmitR reply lent handed tt f
+  any-step c h (receiveR n) reply lent handed f = calm-step c h (receiveR n) reply lent handed tt f
+  any-step c h timeoutR reply lent handed f =
       by-serving-R c reply (statusR (c .rcv) (lentOr (c .area) lent) reply) (timesR c reply) f refl refl h (times-R c h reply)
-  any-step c h cancelR reply lent f =
+  any-step c h cancelR reply lent handed f =
       by-serving-R c reply (statusR (c .rcv) (lentOr (c .area) lent) reply) (stopsR c reply) f refl refl h (stops-R c h reply)
 
   -- ---- every list of calls
 
   any-run : (ks : List Call) (c : Config) → Fairly w ks c → Holds false c → Holds false (runs w ks c)
   any-run [] c f h = h
-  any-run (k ∷ ks) c f h = any-run ks (step w k c) (f .1) (any-step c h (k .act) (k .reply) (k .lent) (f .0))
+  any-run (k ∷ ks) c f h = any-run ks (step w k c) (f .1) (any-step c h (k .act) (k .reply) (k .lent) (k .handed) (f .0))
 
   calm-run : (ks : List Call) (c : Config) → AllCalm ks → Fairly w ks c → Holds true c → Holds true (runs w ks c)
   calm-run [] c q f h = h
-  calm-run (k ∷ ks) c q f h = calm-run ks (step w k c) (q .1) (f .1) (calm-step c h (k .act) (k .reply) (k .lent) (q .0) (f .0))
+  calm-run (k ∷ ks) c q f h = calm-run ks (step w k c) (q .1) (f .1) (calm-step c h (k .act) (k .reply) (k .lent) (k .handed) (q .0) (f .0))
 
   -- ---- the beginning: neither end is refused
 

@@ -110,15 +110,15 @@ module _ (w : World) where
   abbrev pub tookR : Config → ReceiverAfter → Made
   tookR c a = byReceiver a (leftBy (a .answer .status) (c .toR))
 
-  abbrev pub made : Act → Config → List ℕ → Option (List ℕ) → Made
-  made transmitS c reply lent = bySender (transmits (c .snd) (lentOr (w .file) lent) reply) (c .toS)
-  made (receiveS n) c reply lent = tookS c (receives (c .snd) (front (c .toS)) (lentOr (w .file) lent) reply)
-  made timeoutS c reply lent = bySender (times (c .snd) (lentOr (w .file) lent) reply) (c .toS)
-  made cancelS c reply lent = bySender (stops (c .snd) (lentOr (w .file) lent) reply) (c .toS)
-  made transmitR c reply lent = byReceiver (transmitsR (c .rcv) (lentOr (c .area) lent) reply) (c .toR)
-  made (receiveR n) c reply lent = tookR c (receivesR (c .rcv) (front (c .toR)) (lentOr (c .area) lent) reply)
-  made timeoutR c reply lent = byReceiver (timesR (c .rcv) (lentOr (c .area) lent) reply) (c .toR)
-  made cancelR c reply lent = byReceiver (stopsR (c .rcv) (lentOr (c .area) lent) reply) (c .toR)
+  abbrev pub made : Act → Config → List ℕ → Option (List ℕ) → Option (List ℕ) → Made
+  made transmitS c reply lent handed = bySender (transmits (c .snd) (lentOr (w .file) lent) reply) (c .toS)
+  made (receiveS n) c reply lent handed = tookS c (receives (c .snd) (lentOr (front (c .toS)) handed) (lentOr (w .file) lent) reply)
+  made timeoutS c reply lent handed = bySender (times (c .snd) (lentOr (w .file) lent) reply) (c .toS)
+  made cancelS c reply lent handed = bySender (stops (c .snd) (lentOr (w .file) lent) reply) (c .toS)
+  made transmitR c reply lent handed = byReceiver (transmitsR (c .rcv) (lentOr (c .area) lent) reply) (c .toR)
+  made (receiveR n) c reply lent handed = tookR c (receivesR (c .rcv) (lentOr (front (c .toR)) handed) (lentOr (c .area) lent) reply)
+  made timeoutR c reply lent handed = byReceiver (timesR (c .rcv) (lentOr (c .area) lent) reply) (c .toR)
+  made cancelR c reply lent handed = byReceiver (stopsR (c .rcv) (lentOr (c .area) lent) reply) (c .toR)
 
   abbrev pub statusIn : Made → Status
   statusIn (bySender a l) = a .answer .status
@@ -129,7 +129,7 @@ module _ (w : World) where
   stepBy c lent (byReceiver a l) = stepR c l lent a
 
   abbrev pub step : Call → Config → Config
-  step k c = stepBy c (k .lent) (made (k .act) c (k .reply) (k .lent))
+  step k c = stepBy c (k .lent) (made (k .act) c (k .reply) (k .lent) (k .handed))
 
   abbrev pub runs : List Call → Config → Config
   runs [] c = c
@@ -137,7 +137,7 @@ module _ (w : World) where
 
   abbrev pub Fairly : List Call → Config → Type 0
   Fairly [] c = Unit {0}
-  Fairly (k ∷ ks) c = Fair (k .lent) (statusIn (made (k .act) c (k .reply) (k .lent))) × Fairly ks (step k c)
+  Fairly (k ∷ ks) c = Fair (k .lent) (k .handed) (statusIn (made (k .act) c (k .reply) (k .lent) (k .handed))) × Fairly ks (step k c)
 
   -- "Run to its end": nothing on the way to an end that has not ended, no leave that would send anything
   pub record Quiet (c : Config) : Type 0 where

@@ -62,11 +62,13 @@ pub data Act : Type 0 where
   transmitS timeoutS cancelS transmitR timeoutR cancelR : Act
   receiveS receiveR : ℕ → Act
 
--- a call lends a reply buffer, and the end's own file or area, or some other
+-- a call lends a reply buffer, and the end's own file or area (none), or some other; an arrival hands over the front of the way (none), or some
+-- other bytes, and at the other calls nothing arrives: "refused ones, whatever they are lent, take nothing" (Fair)
 pub record Call : Type 0 where
   pub act : Act
   pub reply : List ℕ
   pub lent : Option (List ℕ)
+  pub handed : Option (List ℕ)
 
 abbrev pub lentOr : List ℕ → Option (List ℕ) → List ℕ
 lentOr own none = own
@@ -92,7 +94,8 @@ abbrev pub AllCalm : List Call → Type 0
 AllCalm [] = Unit {0}
 AllCalm (k ∷ ks) = Calm (k .act) × AllCalm ks
 
--- "A call gets .. the file or area; refused ones, whatever they are lent, take nothing": a call that is lent another is refused
-pub data Fair : Option (List ℕ) → Status → Type 0 where
-  own : {s : Status} → Fair none s
-  refused : {l : Option (List ℕ)} {s : Status} → (s ≡ Taken → ⊥) → Fair l s
+-- "A call gets .. the file or area; refused ones, whatever they are lent, take nothing": a call that is lent another, or handed other bytes than
+-- those on the way, is refused
+pub data Fair : Option (List ℕ) → Option (List ℕ) → Status → Type 0 where
+  own : {s : Status} → Fair none none s
+  refused : {lent handed : Option (List ℕ)} {s : Status} → (s ≡ Taken → ⊥) → Fair lent handed s

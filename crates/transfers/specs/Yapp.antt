@@ -93,15 +93,15 @@ module _ (w : World) where
     bySender : SenderAfter → Made
     byReceiver : ReceiverAfter → Made
 
-  abbrev pub made : Act → Config → List ℕ → Option (List ℕ) → Made
-  made transmitS c reply lent = bySender (transmits (c .snd) (lentOr (w .file) lent) reply)
-  made (receiveS n) c reply lent = bySender (receives (c .snd) (take n (c .toS)) (lentOr (w .file) lent) reply)
-  made timeoutS c reply lent = bySender (times (c .snd) (lentOr (w .file) lent) reply)
-  made cancelS c reply lent = bySender (stops (c .snd) (lentOr (w .file) lent) reply)
-  made transmitR c reply lent = byReceiver (transmitsR (c .rcv) (lentOr (c .area) lent) reply)
-  made (receiveR n) c reply lent = byReceiver (receivesR (c .rcv) (take n (c .toR)) (lentOr (c .area) lent) reply)
-  made timeoutR c reply lent = byReceiver (timesR (c .rcv) (lentOr (c .area) lent) reply)
-  made cancelR c reply lent = byReceiver (stopsR (c .rcv) (lentOr (c .area) lent) reply)
+  abbrev pub made : Act → Config → List ℕ → Option (List ℕ) → Option (List ℕ) → Made
+  made transmitS c reply lent handed = bySender (transmits (c .snd) (lentOr (w .file) lent) reply)
+  made (receiveS n) c reply lent handed = bySender (receives (c .snd) (lentOr (take n (c .toS)) handed) (lentOr (w .file) lent) reply)
+  made timeoutS c reply lent handed = bySender (times (c .snd) (lentOr (w .file) lent) reply)
+  made cancelS c reply lent handed = bySender (stops (c .snd) (lentOr (w .file) lent) reply)
+  made transmitR c reply lent handed = byReceiver (transmitsR (c .rcv) (lentOr (c .area) lent) reply)
+  made (receiveR n) c reply lent handed = byReceiver (receivesR (c .rcv) (lentOr (take n (c .toR)) handed) (lentOr (c .area) lent) reply)
+  made timeoutR c reply lent handed = byReceiver (timesR (c .rcv) (lentOr (c .area) lent) reply)
+  made cancelR c reply lent handed = byReceiver (stopsR (c .rcv) (lentOr (c .area) lent) reply)
 
   abbrev pub statusIn : Made → Status
   statusIn (bySender a) = a .answer .status
@@ -112,7 +112,7 @@ module _ (w : World) where
   stepBy c lent (byReceiver a) = stepR c lent a
 
   abbrev pub step : Call → Config → Config
-  step k c = stepBy c (k .lent) (made (k .act) c (k .reply) (k .lent))
+  step k c = stepBy c (k .lent) (made (k .act) c (k .reply) (k .lent) (k .handed))
 
   abbrev pub runs : List Call → Config → Config
   runs [] c = c
@@ -120,7 +120,7 @@ module _ (w : World) where
 
   abbrev pub Fairly : List Call → Config → Type 0
   Fairly [] c = Unit {0}
-  Fairly (k ∷ ks) c = Fair (k .lent) (statusIn (made (k .act) c (k .reply) (k .lent))) × Fairly ks (step k c)
+  Fairly (k ∷ ks) c = Fair (k .lent) (k .handed) (statusIn (made (k .act) c (k .reply) (k .lent) (k .handed))) × Fairly ks (step k c)
 
   -- "Run to its end": nothing on the way to an end that has not ended, no leave that would send anything
   pub record Quiet (c : Config) : Type 0 where
