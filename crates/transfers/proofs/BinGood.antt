@@ -7,7 +7,6 @@ use mathlib.Core.Bool.{Bool, true, false}
 use mathlib.Core.List.{List, [], _∷_, _++_}
 use mathlib.Core.Option.{Option, none, some}
 use native.Mathlib.Omega.{arith}
-use native.Mathlib.Nat.{add-zero}
 use lib.Dec.{eqb, leb}
 use lib.ListN.{length, take, drop}
 use lib.Seq.{take-length}
@@ -33,7 +32,7 @@ use Rattle.bin.specs.Steps.{bytesIn, heard, SenderSettings, SenderMove, goes, s
 use Rattle.transfers.specs.MachinesBin.{cut, senderLeaves, receiverTakes}
 use Rattle.transfers.specs.World.{World}
 use Rattle.transfers.specs.Bin.{Settings}
-use Rattle.transfers.proofs.Stored.{Stored, kept-within}
+use Rattle.transfers.proofs.Stored.{Stored, Stores, unmoved, kept-within}
 use Rattle.transfers.proofs.BinFrames.{Block, Cut, cuts, sentTo, sent-one, ourLine, ourKept, line-said, ok-said, kept-said, stop-said, held, restamped, grown-by}
 
 -- ---- the frames on the way to the receiver
@@ -143,7 +142,7 @@ module _ (w : World) where
   take-frame k m area tally [] h c = absurd (omega (arith, c .block .filled))
   take-frame k m area tally (b ∷ d) h c =
       rw (c .no-display, c .no-stop, le-leb (k + length (b ∷ d)) (length (w .file)) (c .block .fits))
-      (judge (k + length (b ∷ d)) m (appended k (b ∷ d) area) [] (length (b ∷ d)) (tally + length (b ∷ d)) (grown-by w (b ∷ d) h (c .block)))
+      (judge (k + length (b ∷ d)) m (appended k (b ∷ d) area) [] (length (b ∷ d)) (tally + length (b ∷ d)) (grown-by w (b ∷ d) h (c .block) .stored))
 
   accepts : {k : ℕ} {m : Stamp} {area : List ℕ} {tally : ℕ} {q : List ℕ} {a : ReceiverMove} → stampFits m ≡ true → OkReply k q → k ≡ tally
       → Judged k m area (q ∷ []) 0 a → Accepts area tally a
@@ -272,10 +271,7 @@ module _ (w : World) where
   module _ (reply area : List ℕ) (tally : ℕ) where
     pub record TakenOn (s : SenderState) (a : ReceiverMove) (lr ls : List (List ℕ)) (o : Bool) : Type 0 where
       pub inv : Inv s (a .state) (a .saved) lr (sentTo ls (a .out) reply) o
-      pub stored : Stored w (a .saved) (a .area) (tally + a .stored)
-
-    unmoved : {v : Option Saved} → Stored w v area tally → Stored w v area (tally + 0)
-    unmoved h = rw add-zero h
+      pub stored : Stores w area (a .saved) (a .area) tally (a .stored)
 
     stage-flight : {k p : ℕ} {s : ReceiverState} {m : Stamp} {x l : List (List ℕ)} → Stage k s → Stops x → Frames (w .file) x k p l
         → Flight s (held w k m) l
@@ -285,13 +281,13 @@ module _ (w : World) where
     accept-good : {v : Option Saved} {a : ReceiverMove} {o : Bool} → Accepts area tally a → Stored w v area tally → TakenOn Wait a [] [] o
     accept-good (at {k = k} {m = m} {q = p} f s q e) h = record {
       inv = rw (sent-one [] p reply (ok-some q)) (good (g2 s q));
-      stored = unmoved (restamped w k m h e f);
+      stored = unmoved w (restamped w k m h e f);
     }
 
     accept-fading : {v : Option Saved} {a : ReceiverMove} {s : SenderState} {l ls : List (List ℕ)} → Accepts area tally a → Stored w v area tally
         → EndedS s → Stops l → TakenOn s a l ls false
     accept-fading (at {k = k} {m = m} f s q e) h x z =
-        record { inv = fades x (stage-flight s z sent); stored = unmoved (restamped w k m h e f) }
+        record { inv = fades x (stage-flight s z sent); stored = unmoved w (restamped w k m h e f) }
 
     stage-good : {k p : ℕ} {s : ReceiverState} {m : Stamp} {l : List (List ℕ)} {o : Bool} → Stage k s → p < length (w .file)
         → Frames (w .file) [] k p l → Inv (Send p) s (held w k m) l [] o
@@ -314,17 +310,17 @@ module _ (w : World) where
     over-takes : {s : SenderState} (o : Outcome) (v : Option Saved) {lr ls : List (List ℕ)} (f : List ℕ) → Stored w v area tally
         → TakenOn s (receiverTakes ourRoom (Over o) v area f) lr ls false
     unfolding receiverTakes
-    over-takes o v [] h = record { inv = faded is-over; stored = unmoved h }
-    over-takes o v (b ∷ f) h = record { inv = faded is-over; stored = unmoved h }
+    over-takes o v [] h = record { inv = faded is-over; stored = unmoved w h }
+    over-takes o v (b ∷ f) h = record { inv = faded is-over; stored = unmoved w h }
 
     early : {s : SenderState} {v : Option Saved} {a : ReceiverMove} {ls : List (List ℕ)} → a ≡ answers Waiting v area [] 0 → EndedS s → Stored w v area tally
         → TakenOn s a [] ls false
-    early e x h = rw e (record { inv = fades x (no-line none-yet); stored = unmoved h })
+    early e x h = rw e (record { inv = fades x (no-line none-yet); stored = unmoved w h })
 
     late : {s : SenderState} {k : ℕ} {m : Stamp} {ls : List (List ℕ)} → EndedS s → Stored w (held w k m) area tally
         → TakenOn s (receiverTakes ourRoom (Takes (crcOf (w .file))) (held w k m) area stopFrame) [] ls false
     unfolding receiverTakes starts same
-    late x h = record { inv = fades x at-rest; stored = unmoved h }
+    late x h = record { inv = fades x at-rest; stored = unmoved w h }
 
     pub inv-takesR : {o : Bool} {s : SenderState} {r : ReceiverState} {v : Option Saved} {lr ls : List (List ℕ)} {f : List ℕ} → Inv s r v (f ∷ lr) ls o
         → Stored w v area tally → TakenOn s (receiverTakes ourRoom r v area f) lr ls o
@@ -343,12 +339,12 @@ module _ (w : World) where
     pub inv-nothing : {o : Bool} {s : SenderState} (r : ReceiverState) (v : Option Saved) {lr ls : List (List ℕ)} → Inv s r v lr ls o
         → Stored w v area tally → TakenOn s (receiverTakes ourRoom r v area []) lr ls o
     unfolding receiverTakes
-    inv-nothing r v i h = record { inv = i; stored = unmoved h }
+    inv-nothing r v i h = record { inv = i; stored = unmoved w h }
 
     pub inv-failsR : {s : SenderState} (n : Outcome) (r : ReceiverState) (v : Option Saved) {lr ls : List (List ℕ)} → Stored w v area tally
         → TakenOn s (receiverFails n r v area) lr ls false
     unfolding receiverFails
-    inv-failsR n Waiting v h = record { inv = faded is-over; stored = unmoved h }
-    inv-failsR n (TakesBasic size kept) v h = record { inv = faded is-over; stored = unmoved h }
-    inv-failsR n (Takes crc) v h = record { inv = faded is-over; stored = unmoved h }
-    inv-failsR n (Over e) v h = record { inv = faded is-over; stored = unmoved h }
+    inv-failsR n Waiting v h = record { inv = faded is-over; stored = unmoved w h }
+    inv-failsR n (TakesBasic size kept) v h = record { inv = faded is-over; stored = unmoved w h }
+    inv-failsR n (Takes crc) v h = record { inv = faded is-over; stored = unmoved w h }
+    inv-failsR n (Over e) v h = record { inv = faded is-over; stored = unmoved w h }

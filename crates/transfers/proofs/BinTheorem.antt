@@ -33,9 +33,9 @@ use Rattle.bin_sender.specs.Sender as sender
 use Rattle.bin_receiver.specs.Receiver as receiver
 use Rattle.calls.specs.Saving.{formBy}
 use Rattle.transfers.specs.MachinesBin.{senderLeaves, transmit, receiverTakes, receive}
-use Rattle.transfers.specs.World.{World, Left, Act, transmitS, timeoutS, cancelS, transmitR, timeoutR, cancelR, receiveS, receiveR, Call, lentOr, ours, savedBytes, Calm, AllCalm}
+use Rattle.transfers.specs.World.{World, Left, Act, transmitS, timeoutS, cancelS, transmitR, timeoutR, cancelR, receiveS, receiveR, Call, lentOr, ours, savedBytes, laidBy, Calm, AllCalm}
 use Rattle.transfers.specs.Bin.{Settings, Config, receiverBy, begins, front, behindFront, leftBy, stepS, stepR, made, statusIn, stepBy, step, runs, Fair, own, refused, Fairly, Quiet, Complete, leaves}
-use Rattle.transfers.proofs.Stored.{Ours, Stored, Between, ours-form, ours-back, name-back, saved-back, name-room, name-short}
+use Rattle.transfers.proofs.Stored.{Ours, Stored, Between, lays-none, ours-form, ours-back, name-back, saved-back, name-room, name-short}
 use Rattle.transfers.proofs.BinFrames.{cuts, sentTo, line-said}
 use Rattle.transfers.proofs.BinGood.{sent, frame, Good, g0, g1, g2, g3, g4, some-left, all-there, Inv, good, fades, faded, ourRoom, ourSender, inv-leaves, inv-takesS, inv-failsS, TakenOn, inv-takesR, inv-nothing, inv-failsR}
 
@@ -52,20 +52,21 @@ abbrev pub receiverAt : World → ReceiverState → Option Saved → List ℕ �
 receiverAt w st v arr = record { name = arr; core = record { state = st; room = length (w .area); resumes = true; keeping = keepingOf v } }
 
 module _ (w : World) (t : Settings) where
-  abbrev cfg : SenderState → ReceiverState → Option Saved → List ℕ → List ℕ → List (List ℕ) → List (List ℕ) → ℕ → Config
-  cfg s r v arr area lr ls tally =
-      record { snd = senderAt w t s; rcv = receiverAt w r v arr; area = area; toR = lr; toS = ls; tally = tally }
+  abbrev cfg : SenderState → ReceiverState → Option Saved → List ℕ → List ℕ → List (List ℕ) → List (List ℕ) → ℕ → List ℕ → Config
+  cfg s r v arr area lr ls tally laid =
+      record { snd = senderAt w t s; rcv = receiverAt w r v arr; area = area; toR = lr; toS = ls; tally = tally; laid = laid }
 
   -- what holds after every call; at true there was neither timer nor stop
-  pub record Now (o : Bool) (s : SenderState) (r : ReceiverState) (v : Option Saved) (arr area : List ℕ) (lr ls : List (List ℕ)) (tally : ℕ) : Type 0 where
+  pub record Now (o : Bool) (s : SenderState) (r : ReceiverState) (v : Option Saved) (arr area : List ℕ) (lr ls : List (List ℕ)) (tally : ℕ) (laid : List ℕ) : Type 0 where
     pub array : length arr ≡ 64
     pub tied : savedBy (keepingOf v) arr ≡ v
     pub inv : Inv w s r v lr ls o
     pub stored : Stored w v area tally
+    pub account : area ≡ laid
 
   pub data Holds (o : Bool) : Config → Type 0 where
-    holds : {s : SenderState} {r : ReceiverState} {v : Option Saved} {arr area : List ℕ} {lr ls : List (List ℕ)} {tally : ℕ}
-        → Now o s r v arr area lr ls tally → Holds o (cfg s r v arr area lr ls tally)
+    holds : {s : SenderState} {r : ReceiverState} {v : Option Saved} {arr area : List ℕ} {lr ls : List (List ℕ)} {tally : ℕ} {laid : List ℕ}
+        → Now o s r v arr area lr ls tally laid → Holds o (cfg s r v arr area lr ls tally laid)
 
   -- a call that is fairly made leaves what holds
   abbrev Served : Bool → Act → Config → Type 0
@@ -81,10 +82,10 @@ module _ (w : World) (t : Settings) where
   back area none = refl
   back area (some l) = refl
 
-  module _ {o : Bool} {s : SenderState} {r : ReceiverState} {v : Option Saved} {arr area : List ℕ} {lr ls : List (List ℕ)} {tally : ℕ}
-      (n : Now o s r v arr area lr ls tally) where
+  module _ {o : Bool} {s : SenderState} {r : ReceiverState} {v : Option Saved} {arr area : List ℕ} {lr ls : List (List ℕ)} {tally : ℕ} {laid : List ℕ}
+      (n : Now o s r v arr area lr ls tally laid) where
     abbrev now : Config
-    now = cfg s r v arr area lr ls tally
+    now = cfg s r v arr area lr ls tally laid
 
     -- what a call with the status x answers, taken or refused
     abbrev answerS : SenderMove → List ℕ → Status → sender.SenderAfter
@@ -99,7 +100,7 @@ module _ (w : World) (t : Settings) where
         → Stays left ls → Inv w (move none (w .file) .state) r v (sentTo lr (move none (w .file) .out) reply) (left Taken) o
         → Holds o (stepS now (left (answerS (move handed (lentOr (w .file) lent)) reply x .answer .status))
         (answerS (move handed (lentOr (w .file) lent)) reply x))
-    sender-call move left reply _ _ Taken own q j = holds (record { array = n .array; tied = n .tied; inv = j; stored = n .stored })
+    sender-call move left reply _ _ Taken own q j = holds (record { array = n .array; tied = n .tied; inv = j; stored = n .stored; account = n .account })
     sender-call move left reply lent handed Taken (refused x) q j = absurd (x refl)
     sender-call move left reply lent handed Over f q j = rw (q .0) (holds n)
     sender-call move left reply lent handed LongFrame f q j = rw (q .1) (holds n)
@@ -107,23 +108,24 @@ module _ (w : World) (t : Settings) where
     sender-call move left reply lent handed WrongLength f q j = rw (q .3) (holds n)
 
     refused-call : (reply : List ℕ) (lent : Option (List ℕ)) (x : Status)
-        → Holds o (stepR now lr lent (receiver.refusedCall (receiverAt w r v arr) x (lentOr area lent) reply))
-    refused-call reply lent x = rw (back area lent, add-zero tally) (holds n)
+        → Holds o (stepR w now lr lent (receiver.refusedCall (receiverAt w r v arr) x (lentOr area lent) reply))
+    refused-call reply lent x = rw (back area lent, add-zero tally, lays-none w tally laid) (holds n)
 
     -- a call at the receiver, which moves by the frame that is handed over and the area that is lent
     receiver-call : (move : Option (List ℕ) → List ℕ → ReceiverMove) (shown : Option (List ℕ) → Place) (left : Status → List (List ℕ)) (reply : List ℕ)
         (lent handed : Option (List ℕ)) (x : Status)
         → Fair lent handed (answerR (shown handed) (move handed (lentOr area lent)) (lentOr area lent) reply x .answer .status)
         → Stays left lr → TakenOn w reply area tally s (move none area) (left Taken) ls o
-        → Holds o (stepR now (left (answerR (shown handed) (move handed (lentOr area lent)) (lentOr area lent) reply x .answer .status)) lent
+        → Holds o (stepR w now (left (answerR (shown handed) (move handed (lentOr area lent)) (lentOr area lent) reply x .answer .status)) lent
         (answerR (shown handed) (move handed (lentOr area lent)) (lentOr area lent) reply x))
     receiver-call move shown left reply _ _ Taken own q j =
-        let l = name-short w (move none area .saved) (j .stored .ours) in
+        let l = name-short w (move none area .saved) (j .stored .stored .ours) in
         holds (record {
           array = name-room (nameOf (move none area .saved)) arr (n .array) l;
           tied = saved-back (move none area .saved) arr (n .array) l;
           inv = j .inv;
-          stored = j .stored;
+          stored = j .stored .stored;
+          account = j .stored .laid ∙ ap (laidBy w tally (move none area .stored)) (n .account);
         })
     receiver-call move shown left reply lent handed Taken (refused x) q j = absurd (x refl)
     receiver-call move shown left reply lent handed Over f q j = rw (q .0) (refused-call reply lent Over)
@@ -157,8 +159,8 @@ module _ (w : World) (t : Settings) where
   front-R {r = r} {v = v} [] reply area tally i h = inv-nothing w reply area tally r v i h
   front-R (f ∷ lr) reply area tally i h = inv-takesR w reply area tally i h
 
-  module _ {o : Bool} {s : SenderState} {r : ReceiverState} {v : Option Saved} {arr area : List ℕ} {lr ls : List (List ℕ)} {tally : ℕ}
-      (n : Now o s r v arr area lr ls tally) (k : ℕ) where
+  module _ {o : Bool} {s : SenderState} {r : ReceiverState} {v : Option Saved} {arr area : List ℕ} {lr ls : List (List ℕ)} {tally : ℕ} {laid : List ℕ}
+      (n : Now o s r v arr area lr ls tally laid) (k : ℕ) where
     serve-receiveS : Served o (receiveS k) (now n)
     unfolding sender.receive
     serve-receiveS reply lent handed f =
@@ -174,8 +176,8 @@ module _ (w : World) (t : Settings) where
         (receiver.statusOf (receiverAt w r v arr) (length (lentOr (front lr) handed)) (lentOr area lent) reply) f (refl, refl, refl, refl)
         (rw (n .tied) (front-R lr reply area tally (n .inv) (n .stored)))
 
-  module _ {s : SenderState} {r : ReceiverState} {v : Option Saved} {arr area : List ℕ} {lr ls : List (List ℕ)} {tally : ℕ}
-      (n : Now false s r v arr area lr ls tally) where
+  module _ {s : SenderState} {r : ReceiverState} {v : Option Saved} {arr area : List ℕ} {lr ls : List (List ℕ)} {tally : ℕ} {laid : List ℕ}
+      (n : Now false s r v arr area lr ls tally laid) where
     serve-timeoutS : Served false timeoutS (now n)
     unfolding sender.timeout
     serve-timeoutS reply lent handed f =
@@ -267,12 +269,13 @@ module _ (w : World) (t : Settings) where
         tied = saved-back (b .saved) (replicate 64 0) refl (name-short w (b .saved) (b .stored .ours));
         inv = good g0;
         stored = b .stored;
+        account = b .laid;
       }))
 
   -- ---- what a session leaves
 
   left-by : {c : Config} → Holds false c → Between w (leaves c)
-  left-by (holds {v = v} n) = record { saved = v; stored = n .stored; bytes = rw (n .tied) }
+  left-by (holds {v = v} n) = record { saved = v; stored = n .stored; bytes = rw (n .tied); laid = n .account }
 
   -- ---- run to its end
 

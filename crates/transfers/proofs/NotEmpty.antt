@@ -36,6 +36,8 @@ use Rattle.bin_receiver.specs.Receiver as breceiver
 use Rattle.bin_sender.specs.declared.Sender.{Sender}
 use Rattle.bin_receiver.specs.declared.Receiver.{Receiver}
 use Rattle.transfers.specs.World.{World, Bytes, Left, first, Safe, keptIn, Act, transmitS, receiveS, receiveR, Call}
+use Rattle.transfers.specs.MachinesYapp as yends
+use Rattle.transfers.specs.MachinesBin as bends
 use Rattle.transfers.specs.Yapp as yapp
 use Rattle.transfers.specs.Bin as bin
 use Rattle.transfers.specs.Demand.{Session, byYapp, byBin, after, FairIn, FairAll, Ends, Completes}
@@ -44,7 +46,7 @@ use Rattle.transfers.proofs.Demand.{safety, completion}
 
 -- opens all that a session computes with: `unfolding opened`
 unfoldable opened : Unit {0}
-unfolding machine all upTo same isName isNameByte over appended radix decimalDigit hexDigit valueFrom readDecimal readCrc readHex littleValue decimal digits hex capital little reduced remainder byteStep walkFrom span.known span.paired span.dataLength span.counted span.total span.spanAt span.lead span.trail span.placeAt packet.stampOf packet.headerSize packet.headerRead packet.checksum packet.isSound packet.acknowledgeOf packet.wholeOf content.contentOf content.stampData content.headerData content.headerForm content.blockForm content.formOf pending.slot pending.feed record-read.namedAt record-read.kindRead record-read.recordOf saved.kindOf saved.stampBytes saved.recordData saved.recordBytes saved.isSaved saved.recordForm frame.starts frame.ends frame.body frame.hasHash frame.behind frame.marked frame.lineName frame.hasResume frame.stampDigits frame.lineStamp frame.lineCrc frame.lineRead frame.lineOf frame.okKept frame.okRead frame.okOf frame.frameOf element.contentOf element.lineBytes element.keptBytes element.lineForm element.okKeptForm element.formOf checkOf ysteps.writes ysender.begin ysender.transmit ysender.receive yreceiver.fresh yreceiver.receive bsteps.heard bsteps.cut bsteps.sendsFrom bsteps.senderLeaves bsteps.resumesAt bsteps.senderHears bsteps.senderTakes bsteps.judgeWhole bsteps.judgeRecord bsteps.judgeExtended bsteps.receiverHears bsteps.takesFrame bsteps.receiverTakes bsender.begin bsender.transmit bsender.receive breceiver.withSaved breceiver.resume breceiver.receive
+unfolding machine all upTo same isName isNameByte over appended radix decimalDigit hexDigit valueFrom readDecimal readCrc readHex littleValue decimal digits hex capital little reduced remainder byteStep walkFrom span.known span.paired span.dataLength span.counted span.total span.spanAt span.lead span.trail span.placeAt packet.stampOf packet.headerSize packet.headerRead packet.checksum packet.isSound packet.acknowledgeOf packet.wholeOf content.contentOf content.stampData content.headerData content.headerForm content.blockForm content.formOf pending.slot pending.feed record-read.namedAt record-read.kindRead record-read.recordOf saved.kindOf saved.stampBytes saved.recordData saved.recordBytes saved.isSaved saved.recordForm frame.starts frame.ends frame.body frame.hasHash frame.behind frame.marked frame.lineName frame.hasResume frame.stampDigits frame.lineStamp frame.lineCrc frame.lineRead frame.lineOf frame.okKept frame.okRead frame.okOf frame.frameOf element.contentOf element.lineBytes element.keptBytes element.lineForm element.okKeptForm element.formOf checkOf ysteps.writes ysender.begin ysender.transmit ysender.receive yreceiver.fresh yends.receive bsteps.heard bends.cut bsteps.sendsFrom bends.senderLeaves bsteps.resumesAt bsteps.senderHears bsteps.senderTakes bsteps.judgeWhole bsteps.judgeRecord bsteps.judgeExtended bsteps.receiverHears bsteps.takesFrame bends.receiverTakes bsender.begin bends.transmit bsender.receive breceiver.withSaved breceiver.resume bends.receive
 opened = tt
 
 abbrev pub file : List ℕ
@@ -96,7 +98,7 @@ abbrev pub long : Call
 long = record { act = receiveR 300; reply = replicate 259 0; lent = none; handed = some (replicate 257 0) }
 
 -- by YAPP with checksums and blocks of two bytes: the first packet comes in two chunks, a call before the header is taken is refused, and
--- the session breaks off in the data
+-- the session breaks off inside the second DT
 abbrev pub settingsY : yapp.Settings
 settingsY = record { block = 2; block-some = lit≤ tt; block-most = lit≤ tt; stamp = Present 7; stamp-fits = refl; checks = true }
 
@@ -104,7 +106,7 @@ abbrev pub broken : Session
 broken =
     byYapp settingsY
     (made transmitS ∷ made (receiveR 1) ∷ made (receiveR 300) ∷ made (receiveS 300) ∷ small ∷ made (receiveR 300) ∷ made (receiveS 300)
-    ∷ made transmitS ∷ made (receiveR 300) ∷ [])
+    ∷ made transmitS ∷ made (receiveR 300) ∷ made transmitS ∷ made (receiveR 3) ∷ [])
 
 -- by extended #BIN#: a call is refused while the line is on the way, and the session is run to its end
 abbrev pub settingsB : bin.Settings
@@ -133,10 +135,10 @@ cut-chunk = refl
 abbrev recordLeft : List ℕ
 recordLeft = 16 ∷ 0 ∷ 2 ∷ 0 ∷ 3 ∷ 0 ∷ 0 ∷ 0 ∷ 2 ∷ 0 ∷ 0 ∷ 0 ∷ 7 ∷ 0 ∷ 0 ∷ 0 ∷ 1 ∷ 65 ∷ []
 
--- two bytes are stored, and the record says so
-pub broken-left : (left .area ≡ 1 ∷ 2 ∷ 9 ∷ 9 ∷ []) × ((left .tally ≡ 2) × ((left .saved ≡ some recordLeft) × (keptIn (left .saved) ≡ 2)))
+-- two bytes are stored, and the record says so; nothing of the unfinished DT is in the area
+pub broken-left : (left .area ≡ 1 ∷ 2 ∷ 9 ∷ 9 ∷ []) × ((left .laid ≡ 1 ∷ 2 ∷ 9 ∷ 9 ∷ []) × ((left .tally ≡ 2) × ((left .saved ≡ some recordLeft) × (keptIn (left .saved) ≡ 2))))
 unfolding opened
-broken-left = (refl, (refl, (refl, refl)))
+broken-left = (refl, (refl, (refl, (refl, refl))))
 
 -- ---- the premises
 
@@ -150,15 +152,15 @@ is-long e = let z : _≡_ {A = ℕ} 19 0 = ap statusNumber e in absurd (omega ar
 
 pub fair : FairAll w (broken ∷ []) (first w)
 unfolding opened
-fair = ((yapp.own, (yapp.own, (yapp.own, (yapp.own, (yapp.refused is-small, (yapp.own, (yapp.own, (yapp.own, (yapp.own, tt))))))))), tt)
+fair = ((yapp.own, (yapp.own, (yapp.own, (yapp.own, (yapp.refused is-small, (yapp.own, (yapp.own, (yapp.own, (yapp.own, (yapp.own, (yapp.own, tt))))))))))), tt)
 
 pub fair-last : FairIn w ending left
 unfolding opened
 fair-last = (bin.own, (bin.refused is-long, (bin.own, (bin.own, (bin.own, (bin.own, tt))))))
 
 -- a leave sends nothing: an ended sender refuses it, and a receiver sends nothing at any
-silent-S : (m : Sender) (own reply : List ℕ) → bsteps.senderEnded (m .core .state) ≡ true → bsender.transmit m own reply .answer .sent ≡ 0
-unfolding bsender.transmit checkOf
+silent-S : (m : Sender) (own reply : List ℕ) → bsteps.senderEnded (m .core .state) ≡ true → bends.transmit m own reply .answer .sent ≡ 0
+unfolding bends.transmit checkOf
 silent-S m own reply e = rw e refl
 
 silent-R : (m : Receiver) (own reply : List ℕ) → breceiver.transmit m own reply .answer .sent ≡ 0

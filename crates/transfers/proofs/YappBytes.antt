@@ -6,11 +6,12 @@ use mathlib.Core.Bool.{Bool, true, false}
 use mathlib.Core.List.{List, [], _∷_, _++_}
 use mathlib.Core.Option.{Option}
 use mathlib.Core.Logic.{_⊎_, inl, inr}
+use native.Mathlib.Nat.{sub-zero}
 use lib.ListN.{length, take, drop}
 use lib.Dec.{ltb}
 use borrow.Author.Tests.{ltb-true}
 use Rattle.records.specs.Saved.{Saved}
-use Rattle.packets.specs.Content.{Content}
+use Rattle.packets.specs.Content.{Content, unfinished}
 use Rattle.reader.specs.declared.Reader.{Reader}
 use Rattle.reader.specs.declared.Received.{Received}
 use Rattle.reader.specs.Reader.{checking, receive as reads}
@@ -21,11 +22,11 @@ use Rattle.yapp_core.specs.Core.{heard}
 use Rattle.transfers.specs.MachinesYapp.{receiverTakes}
 use Rattle.transfers.specs.World.{World}
 use Rattle.transfers.specs.Yapp.{Settings}
-use Rattle.transfers.proofs.Stored.{Stored, same}
+use Rattle.transfers.proofs.Stored.{Stored, Stores, stays}
 use Rattle.transfers.proofs.YappPhases.{machine, join, fall, now, RestS, RestR, senderSet, receiverSet, Good, g0, g1, g2, g3, g4, g5, g6, g7, g8, g9, g10, Flight, Inv, good, fades, faded}
 use Rattle.transfers.proofs.YappGood.{nextBlock, next-is, blockMove, good-transmitS, good-receiveS, good-receiveR}
 use Rattle.transfers.proofs.YappWire.{Formed, Word, All, all-nil, all-cons, Brief, quiet, brief-words, words-formed, word-rr, word-af, word-at, word-si, word-ef, block-formed, plain-writes, Encodes, encodes-join, remode, View, waits, takes, view}
-use Rattle.transfers.proofs.YappRest.{sender-unfinished, receiver-unfinished, reply-word, Rested, rest-take, rest-times, rest-stops, Still, still, flight-of, brief-takes, brief-times, brief-stops, Fading, fading-takes, fading-leaves, fading-times, fading-stops, quiet-leaves, good-times}
+use Rattle.transfers.proofs.YappRest.{sender-unfinished, receiver-unfinished, unfinished-lays, reply-word, Rested, rest-take, rest-times, rest-stops, Still, still, flight-of, brief-takes, brief-times, brief-stops, Fading, fading-takes, fading-leaves, fading-times, fading-stops, quiet-leaves, good-times}
 
 -- what is written in mode n may be read in mode m
 pub record Sends (m n : Bool) (out : List Content) : Type 0 where
@@ -111,10 +112,10 @@ module _ (w : World) (t : Settings) where
       → Brief (a .out) → Encodes rr br lr → Moved a sr rs rr v br bs false
   fade a sr f b e = fading (f .rest) (f .flight) (encodes-sent (a .checked) (a .out) e (plain-sends (brief-words b)))
 
-  -- the receiver moved, and has now the reader r and br on the way to it; tally is what was kept before
-  pub record Came (st : SenderState) (sr : Reader) (bs : List ℕ) (o : Bool) (tally : ℕ) (r : Reader) (br : List ℕ) (a : ReceiverMove) : Type 0 where
+  -- the receiver moved, and has now the reader r and br on the way to it; area and tally are those before
+  pub record Came (st : SenderState) (sr : Reader) (bs : List ℕ) (o : Bool) (area : List ℕ) (tally : ℕ) (r : Reader) (br : List ℕ) (a : ReceiverMove) : Type 0 where
     pub inv : WInv st sr (a .state) (checking (a .checked) r) (a .saved) br (bs ++ writes (a .checked) (a .out)) o
-    pub stored : Stored w (a .saved) (a .area) (tally - fall (a .out) + a .stored)
+    pub stored : Stores w area (a .saved) (a .area) (tally - fall (a .out)) (a .stored)
     pub brief : Brief (a .out)
 
   module _ (st : SenderState) (sr : Reader) (rs : ReceiverState) (rr : Reader) (v : Option Saved) (br bs : List ℕ) where
@@ -158,21 +159,25 @@ module _ (w : World) (t : Settings) where
 
     -- ---- the receiver's moves
     module _ (area : List ℕ) (tally : ℕ) (h : Stored w v area tally) where
-      rested : {a : ReceiverMove} {r : Reader} {b : List ℕ} → Rested w t area tally (rr .checked) a → Came st sr bs false tally r b a
+      rested : {a : ReceiverMove} {r : Reader} {b : List ℕ} → Rested w t area tally (rr .checked) a → Came st sr bs false area tally r b a
       rested y = record { inv = over (y .rest); stored = y .stored; brief = y .brief }
 
-      pub wire-timesR : Came st sr bs false tally rr br (receiverTimes (now rs (rr .checked) v) area rs)
+      pub wire-timesR : Came st sr bs false area tally rr br (receiverTimes (now rs (rr .checked) v) area rs)
       wire-timesR = rested (rest-times w t area tally rs (rr .checked) v h)
 
-      pub wire-stopsR : Came st sr bs false tally rr br (receiverStops (now rs (rr .checked) v) area rs)
+      pub wire-stopsR : Came st sr bs false area tally rr br (receiverStops (now rs (rr .checked) v) area rs)
       wire-stopsR = rested (rest-stops w t area tally rs (rr .checked) v h)
+
+      -- part of a packet
+      nothing-yet : Stores w area v (receiverTakes (receiverSet w t) (now rs (rr .checked) v) area unfinished .area) (tally - 0) 0
+      nothing-yet = stays w (rw sub-zero h) (unfinished-lays w (receiverSet w t) rs (rr .checked) v area (tally - 0))
 
       came-good : {o : Bool} {lr ls : List Content} (g : Received) → g .reader .checked ≡ rr .checked → Good w t st (sr .checked) rs (rr .checked) v lr ls
           → Encodes sr bs ls → View br lr g
-          → Came st sr bs o tally (g .reader) (drop (g .taken) br) (receiverTakes (receiverSet w t) (now rs (rr .checked) v) area (heard g))
+          → Came st sr bs o area tally (g .reader) (drop (g .taken) br) (receiverTakes (receiverSet w t) (now rs (rr .checked) v) area (heard g))
       came-good g m p f (waits e x) =
           rw (e, receiver-unfinished (receiverSet w t) rs (rr .checked) v area)
-          (record { inv = in-phase p (same-mode m x) (encodes-sent (rr .checked) [] f (plain-sends all-nil)); stored = same w h; brief = quiet })
+          (record { inv = in-phase p (same-mode m x) (encodes-sent (rr .checked) [] f (plain-sends all-nil)); stored = nothing-yet; brief = quiet })
       came-good g m p f (takes {c = c} {l = l} e x) =
           let y : Still w t area tally (rr .checked) (receiverTakes (receiverSet w t) (now rs (rr .checked) v) area c) l =
           still w t area tally (flight-of w t p) h in
@@ -184,16 +189,16 @@ module _ (w : World) (t : Settings) where
           })
 
       came-fading : {lr : List Content} (g : Received) → g .reader .checked ≡ rr .checked → RestS st → Flight w t rs v lr → View br lr g
-          → Came st sr bs false tally (g .reader) (drop (g .taken) br) (receiverTakes (receiverSet w t) (now rs (rr .checked) v) area (heard g))
+          → Came st sr bs false area tally (g .reader) (drop (g .taken) br) (receiverTakes (receiverSet w t) (now rs (rr .checked) v) area (heard g))
       came-fading g m q p (waits e x) =
           rw (e, receiver-unfinished (receiverSet w t) rs (rr .checked) v area)
-          (record { inv = fading q p (same-mode m x); stored = same w h; brief = quiet })
+          (record { inv = fading q p (same-mode m x); stored = nothing-yet; brief = quiet })
       came-fading g m q p (takes {c = c} {l = l} e x) =
           let y : Still w t area tally (rr .checked) (receiverTakes (receiverSet w t) (now rs (rr .checked) v) area c) l = still w t area tally p h in
           rw e (record { inv = fading q (y .flight) (modes m (y .mode) x); stored = y .stored; brief = y .brief })
 
       pub wire-came : {o : Bool} (n : ℕ) → WInv st sr rs rr v br bs o
-          → Came st sr bs o tally (reads rr (take n br) .reader) (drop (reads rr (take n br) .taken) br)
+          → Came st sr bs o area tally (reads rr (take n br) .reader) (drop (reads rr (take n br) .taken) br)
           (receiverTakes (receiverSet w t) (now rs (rr .checked) v) area (heard (reads rr (take n br))))
       wire-came n (in-phase g e f) = came-good (reads rr (take n br)) refl g f (view rr n br e)
       wire-came n (fading q x e) = came-fading (reads rr (take n br)) refl q x (view rr n br e)

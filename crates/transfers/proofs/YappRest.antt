@@ -1,7 +1,7 @@
 -- Whatever is in flight, the receiver stores only the file; and every call leads from a good phase to one, or to an end at rest.
 -- Assumes nothing.
 use Prim.Native.Nat.{ℕ, _+_, _-_, _≤_}
-use mathlib.Core.Path.{_≡_, refl}
+use mathlib.Core.Path.{_≡_, refl, sym}
 use mathlib.Core.Bool.{Bool, true, false}
 use mathlib.Core.List.{List, [], _∷_, _++_}
 use mathlib.Core.Option.{Option, none}
@@ -23,9 +23,9 @@ use Rattle.yapp.specs.Rows
 use Rattle.yapp.specs.Rows.{Action, nothing, abort, refused, cancelled, success, leaves, answers, sendHeader, start, startChecked, resume, sendTrailer, ready, judge, second, store}
 use Rattle.yapp.specs.Steps.{SenderSettings, SenderMove, ReceiverSettings, ReceiverMove, sends, aborts, goes, fails, senderDoes, senderTakes, senderLeaves, senderTimes, senderStops, receiverDoes, receiverTimes, receiverStops}
 use Rattle.transfers.specs.MachinesYapp.{receiverTakes}
-use Rattle.transfers.specs.World.{World}
+use Rattle.transfers.specs.World.{World, laidBy}
 use Rattle.transfers.specs.Yapp.{Settings}
-use Rattle.transfers.proofs.Stored.{Stored, mine, fits-saved, same, fallen, stored-more}
+use Rattle.transfers.proofs.Stored.{Stored, Stores, mine, fits-saved, lays-none, unmoved, same, fallen, stored-more}
 use Rattle.transfers.proofs.YappPhases.{machine, join, fall, fallBy, now, called, again, Block, Dts, sent, block, Tail, silent, eof, trailer, stop, answer, RestS, waitsS, endedS, RestR, waitsR, endedR, senderSet, receiverSet, held, Reply, plainly, checking, resuming, Good, g0, g1, g2, g3, g4, g5, g6, g7, g8, g9, g10, Flight, resting, early, early-header, waiting, waiting-header, taking, whole, Inv, good, fades, faded}
 use Rattle.transfers.proofs.YappGood.{dts-append, calling-append, calling-none, Accepts, accepted, Keeps, keeps, reply-within, take-header, take-data}
 use Rattle.transfers.proofs.YappWire.{Word, All, all-nil, all-cons, Brief, quiet, one, word-rr, word-rf, word-af, word-at, word-ca, word-rt, word-si, word-ef, word-et, word-cn, word-re, word-hd}
@@ -42,8 +42,9 @@ sender-unfinished s ST k = refl
 sender-unfinished s (CW o) k = refl
 sender-unfinished s (Ended o) k = refl
 
+-- whatever it makes of the area
 pub receiver-unfinished : (t : ReceiverSettings) (st : ReceiverState) (k : Bool) (v : Option Saved) (area : List ℕ)
-    → receiverTakes t (now st k v) area unfinished ≡ goes (now st k v) area st []
+    → receiverTakes t (now st k v) area unfinished ≡ goes (now st k v) (receiverTakes t (now st k v) area unfinished .area) st []
 unfolding machine
 receiver-unfinished t R k v area = refl
 receiver-unfinished t (RH false) k v area = refl
@@ -51,6 +52,17 @@ receiver-unfinished t (RH true) k v area = refl
 receiver-unfinished t RD k v area = refl
 receiver-unfinished t (RCW o) k v area = refl
 receiver-unfinished t (REnded o) k v area = refl
+
+-- and it lays nothing into the area
+pub unfinished-lays : (w : World) (t : ReceiverSettings) (st : ReceiverState) (k : Bool) (v : Option Saved) (area : List ℕ) (n : ℕ)
+    → receiverTakes t (now st k v) area unfinished .area ≡ laidBy w n 0 area
+unfolding machine
+unfinished-lays w t R k v area n = sym (lays-none w n area)
+unfinished-lays w t (RH false) k v area n = sym (lays-none w n area)
+unfinished-lays w t (RH true) k v area n = sym (lays-none w n area)
+unfinished-lays w t RD k v area n = sym (lays-none w n area)
+unfinished-lays w t (RCW o) k v area n = sym (lays-none w n area)
+unfinished-lays w t (REnded o) k v area n = sym (lays-none w n area)
 
 tail-words : {l : List Content} → Tail l → All Word l
 tail-words silent = all-nil
@@ -79,14 +91,14 @@ module _ (w : World) (t : Settings) where
     pub record Rested (b : Bool) (a : ReceiverMove) : Type 0 where
       pub rest : RestR (a .state)
       pub mode : a .checked ≡ b
-      pub stored : Stored w (a .saved) (a .area) (tally - fall (a .out) + a .stored)
+      pub stored : Stores w area (a .saved) (a .area) (tally - fall (a .out)) (a .stored)
       pub brief : Brief (a .out)
 
     -- what any receiver is after an answer, with l in flight
     pub record Still (b : Bool) (a : ReceiverMove) (l : List Content) : Type 0 where
       pub mode : (a .checked ≡ b) ⊎ All Word l
       pub flight : Flight w t (a .state) (a .saved) l
-      pub stored : Stored w (a .saved) (a .area) (tally - fall (a .out) + a .stored)
+      pub stored : Stores w area (a .saved) (a .area) (tally - fall (a .out)) (a .stored)
       pub brief : Brief (a .out)
 
     still-rests : {b : Bool} {a : ReceiverMove} {l : List Content} → Rested b a → Still b a l
@@ -158,12 +170,12 @@ module _ (w : World) (t : Settings) where
 
     taken : {c : Bool} {v : Option Saved} {l : List Content} {a : ReceiverMove} → Accepts w t area tally a → Stored w v area tally → Tail l → Still c a l
     taken (accepted {k = k} {q = p} r e) h q =
-        let le : tally - fallBy p + 0 ≤ tally = omega arith in
+        let le : tally - fallBy p ≤ tally = omega arith in
         record {
           mode = inr (tail-words q);
           flight = taking q sent;
-          stored = fallen w (mine w (t .stamp) k) (tally - fallBy p + 0) le h
-              (record { name = refl; size = refl; kept = reply-within w t r; stamp = fits-saved (t .stamp) (t .stamp-fits) }) (omega arith);
+          stored = unmoved w (fallen w (mine w (t .stamp) k) (tally - fallBy p) le h
+              (record { name = refl; size = refl; kept = reply-within w t r; stamp = fits-saved (t .stamp) (t .stamp-fits) }) e);
           brief = one (reply-word r);
         }
 

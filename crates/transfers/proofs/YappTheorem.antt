@@ -1,6 +1,6 @@
 -- Demand 3 for one session by YAPP: what it leaves is again as it has to be, and without timers and stops, run to its end, it is complete.
 -- Assumes nothing.
-use Prim.Native.Nat.{ℕ, _+_, _≤_}
+use Prim.Native.Nat.{ℕ, _+_, _-_, _≤_}
 use mathlib.Core.Path.{_≡_, refl, ap, sym, _∙_}
 use mathlib.Core.Bool.{Bool, true, false, false≢true}
 use mathlib.Core.List.{List, [], _∷_, append-nil}
@@ -38,10 +38,10 @@ use Rattle.yapp_sender.specs.Sender.{SenderAfter, settingsOf, replied, arrived,
 use Rattle.calls.specs.Saving.{formBy}
 use Rattle.yapp_receiver.specs.Receiver.{ReceiverAfter, settingsOf as settingsR, nowOf, replied as repliedR, refusedCall as refusedR, statusOf as statusR, unlessRefused as unlessR, receiverWith, fresh, withSaved, resumeBy, resume, transmit as transmitR′, timeout as timeoutR′, cancel as cancelR′}
 use Rattle.transfers.specs.MachinesYapp.{receiverTakes, receive as receiveR′}
-use Rattle.transfers.specs.World.{World, Left, Act, transmitS, timeoutS, cancelS, transmitR, timeoutR, cancelR, receiveS, receiveR, Call, lentOr, ours, savedBytes, Calm, AllCalm}
+use Rattle.transfers.specs.World.{World, Left, Act, transmitS, timeoutS, cancelS, transmitR, timeoutR, cancelR, receiveS, receiveR, Call, lentOr, ours, savedBytes, laidBy, Calm, AllCalm}
 use Rattle.transfers.specs.Yapp.{Settings, Config, receiverBy, begins, stepS, stepR, made, statusIn, stepBy, step, runs, Fair, own, refused, Fairly, Quiet, Complete, leaves}
-use Rattle.transfers.proofs.Stored.{Ours, Stored, Between, ours-bytes, ours-back, name-back, saved-back, name-room, name-short}
-use Rattle.transfers.proofs.YappPhases.{machine, called, again, sent, block, senderSet, receiverSet, Good, g0, g1, g2, g3, g4, g5, g6, g7, g8, g9, g10}
+use Rattle.transfers.proofs.Stored.{Ours, Stored, Between, lays-none, ours-bytes, ours-back, name-back, saved-back, name-room, name-short}
+use Rattle.transfers.proofs.YappPhases.{machine, fall, called, again, sent, block, senderSet, receiverSet, Good, g0, g1, g2, g3, g4, g5, g6, g7, g8, g9, g10}
 use Rattle.transfers.proofs.YappGood.{nextBlock, next-is, blockMove}
 use Rattle.transfers.proofs.YappWire.{Formed, word-si, word-ef, block-formed, writes-cons, some-bytes, fall-none, fall-is, Encodes, idle, encodes-quiet}
 use Rattle.transfers.proofs.YappBytes.{WInv, in-phase, Moved, Came, wire-leaves, wire-times, wire-stops, wire-heard, wire-timesR, wire-stopsR, wire-came}
@@ -70,6 +70,7 @@ module _ (w : World) (t : Settings) where
     pub array : length (c .rcv .name) ≡ 64
     pub inv : WInv w t (c .snd .core .state) (c .snd .reader) (c .rcv .core .state) (c .rcv .reader) (savedIn (c .rcv)) (c .toR) (c .toS) o
     pub kept : Stored w (savedIn (c .rcv)) (c .area) (c .tally)
+    pub laid : c .area ≡ c .laid
 
   -- ---- a call that is refused changes nothing
 
@@ -80,14 +81,14 @@ module _ (w : World) (t : Settings) where
   lent-back area none = refl
   lent-back area (some l) = refl
 
-  same-R : (c : Config) (lent : Option (List ℕ)) (s : Status) (reply : List ℕ) → stepR c lent (refusedR (c .rcv) s (lentOr (c .area) lent) reply) ≡ c
-  same-R c lent s reply = rw (append-nil (c .toS), fall-none, sub-zero (c .tally), add-zero (c .tally), lent-back (c .area) lent)
+  same-R : (c : Config) (lent : Option (List ℕ)) (s : Status) (reply : List ℕ) → stepR w c lent (refusedR (c .rcv) s (lentOr (c .area) lent) reply) ≡ c
+  same-R c lent s reply = rw (append-nil (c .toS), fall-none, sub-zero (c .tally), add-zero (c .tally), lays-none w (c .tally) (c .laid), lent-back (c .area) lent)
 
   module _ {o : Bool} (c : Config) (h : Holds o c) where
     refused-S : (s : Status) (reply : List ℕ) → Holds o (stepS c (refusedCall (c .snd) s reply))
     refused-S s reply = rw (same-S c s reply) h
 
-    refused-R : (lent : Option (List ℕ)) (s : Status) (reply : List ℕ) → Holds o (stepR c lent (refusedR (c .rcv) s (lentOr (c .area) lent) reply))
+    refused-R : (lent : Option (List ℕ)) (s : Status) (reply : List ℕ) → Holds o (stepR w c lent (refusedR (c .rcv) s (lentOr (c .area) lent) reply))
     refused-R lent s reply = rw (same-R c lent s reply) h
 
     -- ---- a call that is taken
@@ -97,13 +98,13 @@ module _ (w : World) (t : Settings) where
         → Holds p (stepS c (replied (c .snd) r taken shown a reply))
     moved-S r taken shown a reply i =
         rw (sent-is (writes (a .checked) (a .out)) reply)
-        (record { sender-set = h .sender-set; receiver-set = h .receiver-set; array = h .array; inv = i; kept = h .kept })
+        (record { sender-set = h .sender-set; receiver-set = h .receiver-set; array = h .array; inv = i; kept = h .kept; laid = h .laid })
 
     moved-R : {p : Bool} (r : Reader) (taken : ℕ) (a : ReceiverMove) (reply : List ℕ)
-        → Came w t (c .snd .core .state) (c .snd .reader) (c .toS) p (c .tally) r (drop taken (c .toR)) a
-        → Holds p (stepR c none (repliedR (c .rcv) r taken a reply))
+        → Came w t (c .snd .core .state) (c .snd .reader) (c .toS) p (c .area) (c .tally) r (drop taken (c .toR)) a
+        → Holds p (stepR w c none (repliedR (c .rcv) r taken a reply))
     moved-R r taken a reply i =
-        let n = name-short w (a .saved) (i .stored .ours) in
+        let n = name-short w (a .saved) (i .stored .stored .ours) in
         let b = saved-back (a .saved) (c .rcv .name) (h .array) n in
         rw (sent-is (writes (a .checked) (a .out)) reply, fall-is (a .checked) (i .brief))
         (record {
@@ -111,7 +112,8 @@ module _ (w : World) (t : Settings) where
           receiver-set = h .receiver-set;
           array = name-room (nameOf (a .saved)) (c .rcv .name) (h .array) n;
           inv = rw b (i .inv);
-          kept = rw b (i .stored);
+          kept = rw b (i .stored .stored);
+          laid = i .stored .laid ∙ ap (laidBy w (c .tally - fall (a .out)) (a .stored)) (h .laid);
         })
 
     -- ---- by the status
@@ -123,8 +125,8 @@ module _ (w : World) (t : Settings) where
     by-status-S SmallReply reply a g = refused-S SmallReply reply
     by-status-S WrongLength reply a g = refused-S WrongLength reply
 
-    by-status-R : (s : Status) (lent : Option (List ℕ)) (reply : List ℕ) (a : ReceiverAfter) → (s ≡ Taken → Holds o (stepR c lent a))
-        → Holds o (stepR c lent (unlessR s (c .rcv) (lentOr (c .area) lent) reply a))
+    by-status-R : (s : Status) (lent : Option (List ℕ)) (reply : List ℕ) (a : ReceiverAfter) → (s ≡ Taken → Holds o (stepR w c lent a))
+        → Holds o (stepR w c lent (unlessR s (c .rcv) (lentOr (c .area) lent) reply a))
     by-status-R Taken lent reply a g = g refl
     by-status-R Over lent reply a g = refused-R lent Over reply
     by-status-R LongFrame lent reply a g = refused-R lent LongFrame reply
@@ -143,7 +145,7 @@ module _ (w : World) (t : Settings) where
   by-serving-R : {o : Bool} (c : Config) (reply : List ℕ) {lent handed : Option (List ℕ)} (s : Status) {z : Status}
       (a : Option (List ℕ) → Option (List ℕ) → ReceiverAfter) → Fair lent handed z
       → unlessR s (c .rcv) (lentOr (c .area) lent) reply (a lent handed) .answer .status ≡ z → a lent handed .answer .status ≡ Taken → Holds o c
-      → Holds o (stepR c none (a none none)) → Holds o (stepR c lent (unlessR s (c .rcv) (lentOr (c .area) lent) reply (a lent handed)))
+      → Holds o (stepR w c none (a none none)) → Holds o (stepR w c lent (unlessR s (c .rcv) (lentOr (c .area) lent) reply (a lent handed)))
   by-serving-R c reply s a own e q h g = by-status-R c h s none reply (a none none) (λ x. g)
   by-serving-R c reply {lent} {handed} s a (refused n) e q h g =
       by-status-R c h s lent reply (a lent handed) (λ (x : s ≡ Taken). absurd (n (sym (rw x at e) ∙ q)))
@@ -195,15 +197,15 @@ module _ (w : World) (t : Settings) where
     stops-S : (reply : List ℕ) → Holds false (stepS c (stopsS c reply none none))
     stops-S reply = moved-S c h (c .snd .reader) 0 nowhere _ reply (wire-stops w t _ _ _ _ _ _ _ (h .inv))
 
-    hears-R : (n : ℕ) (reply : List ℕ) → Holds o (stepR c none (hearsR c n reply none none))
+    hears-R : (n : ℕ) (reply : List ℕ) → Holds o (stepR w c none (hearsR c n reply none none))
     hears-R n reply =
         let g = reads (c .rcv .reader) (take n (c .toR)) in
         rw (h .receiver-set) (moved-R c h (g .reader) (g .taken) _ reply (wire-came w t _ _ _ _ _ _ _ (c .area) (c .tally) (h .kept) n (h .inv)))
 
-    times-R : (reply : List ℕ) → Holds false (stepR c none (timesR c reply none none))
+    times-R : (reply : List ℕ) → Holds false (stepR w c none (timesR c reply none none))
     times-R reply = moved-R c h (c .rcv .reader) 0 _ reply (wire-timesR w t _ _ _ _ _ _ _ (c .area) (c .tally) (h .kept))
 
-    stops-R : (reply : List ℕ) → Holds false (stepR c none (stopsR c reply none none))
+    stops-R : (reply : List ℕ) → Holds false (stepR w c none (stopsR c reply none none))
     stops-R reply = moved-R c h (c .rcv .reader) 0 _ reply (wire-stopsR w t _ _ _ _ _ _ _ (c .area) (c .tally) (h .kept))
 
     pub calm-step : (act : Act) (reply : List ℕ) (lent handed : Option (List ℕ)) → Calm act
@@ -277,13 +279,14 @@ module _ (w : World) (t : Settings) where
     toR = [];
     toS = [];
     tally = l .tally;
+    laid = l .laid;
   }
 
   fresh-waits : Waits (freshReader false .pending) 0 []
   fresh-waits = record { room = zeros-length 259; count = refl; bytes = refl }
 
-  opened-holds : {o : Bool} (v : Option Saved) (l : Left) → Stored w v (l .area) (l .tally) → Holds o (opened v l)
-  opened-holds v l h =
+  opened-holds : {o : Bool} (v : Option Saved) (l : Left) → Stored w v (l .area) (l .tally) → l .area ≡ l .laid → Holds o (opened v l)
+  opened-holds v l h e =
       let a = zeros-length 64 in
       let n = name-short w v (h .ours) in
       record {
@@ -292,12 +295,13 @@ module _ (w : World) (t : Settings) where
         array = name-room (nameOf v) (zeros 64) a n;
         inv = in-phase g0 (idle fresh-waits refl) (idle fresh-waits refl);
         kept = rw (saved-back v (zeros 64) a n) h;
+        laid = e;
       }
 
   begun : {o : Bool} (l : Left) → Between w l → Holds o (begins w t l)
   begun l b =
       rw (sender-begins, b .bytes, receiver-begins (length (w .area)) (t .checks) (w .fits) (b .saved) (b .stored .ours))
-      (opened-holds (b .saved) l (b .stored))
+      (opened-holds (b .saved) l (b .stored) (b .laid))
 
   -- ---- the end: a good phase that is quiescent is the last
 
@@ -381,7 +385,7 @@ pub yapp-safe : (w : World) (t : Settings) (ks : List Call) (l : Left) → Betwe
     → Between w (leaves (runs w ks (begins w t l)))
 yapp-safe w t ks l b f =
     let h = any-run w t ks (begins w t l) f (begun w t l b) in
-    record { saved = savedIn (runs w ks (begins w t l) .rcv); stored = h .kept; bytes = refl }
+    record { saved = savedIn (runs w ks (begins w t l) .rcv); stored = h .kept; bytes = refl; laid = h .laid }
 
 -- COMPLETION, without timers and stops, run to its end
 pub yapp-complete : (w : World) (t : Settings) (ks : List Call) (l : Left) → Between w l → Fairly w ks (begins w t l) → AllCalm ks

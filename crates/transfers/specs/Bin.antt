@@ -19,7 +19,7 @@ use Rattle.bin.specs.Steps.{senderEnded, receiverEnded}
 use Rattle.bin_sender.specs.Sender.{SenderAfter, begin, receive as receives, timeout as times, cancel as stops}
 use Rattle.bin_receiver.specs.Receiver.{ReceiverAfter, fresh, resume, recordBy, transmit as transmitsR, timeout as timesR, cancel as stopsR}
 use Rattle.transfers.specs.MachinesBin.{transmit as transmits, receive as receivesR}
-use Rattle.transfers.specs.World.{World, Left, Act, transmitS, timeoutS, cancelS, transmitR, timeoutR, cancelR, receiveS, receiveR, Call, lentOr, ours, savedBytes}
+use Rattle.transfers.specs.World.{World, Left, Act, transmitS, timeoutS, cancelS, transmitR, timeoutR, cancelR, receiveS, receiveR, Call, lentOr, ours, savedBytes, laidBy}
 pub use Rattle.transfers.specs.World.{Fair, own, refused}
 
 -- what may differ from session to session
@@ -30,7 +30,8 @@ pub record Settings : Type 0 where
   pub stamp : ℕ
   pub stamp-fits : stamp ≤ 0xFFFFFFFF
 
--- the two ends, the area, the frames on the way to the receiver and to the sender, and the tally
+-- the two ends, the area, the frames on the way to the receiver and to the sender, the tally, and the first area with the
+-- file's bytes laid where bytes were stored
 pub record Config : Type 0 where
   pub snd : Sender
   pub rcv : Receiver
@@ -38,6 +39,7 @@ pub record Config : Type 0 where
   pub toR : List (List ℕ)
   pub toS : List (List ℕ)
   pub tally : ℕ
+  pub laid : List ℕ
 
 -- the receiver begins from the record's bytes that the session before left
 abbrev pub receiverBy : ℕ → Option (List ℕ) → Receiver
@@ -53,6 +55,7 @@ begins w t l = record {
   toR = [];
   toS = [];
   tally = l .tally;
+  laid = l .laid;
 }
 
 -- a frame that was sent joins the way to the other end
@@ -86,16 +89,18 @@ stepS c l a = record {
   toR = joins (c .toR) (take (a .answer .sent) (a .reply));
   toS = l;
   tally = c .tally;
+  laid = c .laid;
 }
 
-abbrev pub stepR : Config → List (List ℕ) → Option (List ℕ) → ReceiverAfter → Config
-stepR c l lent a = record {
+abbrev pub stepR : World → Config → List (List ℕ) → Option (List ℕ) → ReceiverAfter → Config
+stepR w c l lent a = record {
   snd = c .snd;
   rcv = a .answer .receiver;
   area = ours (c .area) (a .area) lent;
   toR = l;
   toS = joins (c .toS) (take (a .answer .sent) (a .reply));
   tally = c .tally + a .answer .stored;
+  laid = laidBy w (c .tally) (a .answer .stored) (c .laid);
 }
 
 module _ (w : World) where
@@ -126,7 +131,7 @@ module _ (w : World) where
 
   abbrev pub stepBy : Config → Option (List ℕ) → Made → Config
   stepBy c lent (bySender a l) = stepS c l a
-  stepBy c lent (byReceiver a l) = stepR c l lent a
+  stepBy c lent (byReceiver a l) = stepR w c l lent a
 
   abbrev pub step : Call → Config → Config
   step k c = stepBy c (k .lent) (made (k .act) c (k .reply) (k .lent) (k .handed))
@@ -153,4 +158,4 @@ module _ (w : World) where
     pub file : take (length (w .file)) (c .area) ≡ w .file
 
 abbrev pub leaves : Config → Left
-leaves c = record { area = c .area; saved = savedBytes (recordBy (c .rcv)); tally = c .tally }
+leaves c = record { area = c .area; saved = savedBytes (recordBy (c .rcv)); tally = c .tally; laid = c .laid }

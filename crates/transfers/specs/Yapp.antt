@@ -25,7 +25,7 @@ use Rattle.yapp.specs.Steps.{senderEnded, receiverEnded}
 use Rattle.yapp_sender.specs.Sender.{SenderAfter, begin, transmit as transmits, receive as receives, timeout as times, cancel as stops}
 use Rattle.yapp_receiver.specs.Receiver.{ReceiverAfter, fresh, resume, recordBy, transmit as transmitsR, timeout as timesR, cancel as stopsR}
 use Rattle.transfers.specs.MachinesYapp.{receive as receivesR}
-use Rattle.transfers.specs.World.{World, Left, Act, transmitS, timeoutS, cancelS, transmitR, timeoutR, cancelR, receiveS, receiveR, Call, lentOr, ours, savedBytes}
+use Rattle.transfers.specs.World.{World, Left, Act, transmitS, timeoutS, cancelS, transmitR, timeoutR, cancelR, receiveS, receiveR, Call, lentOr, ours, savedBytes, laidBy}
 pub use Rattle.transfers.specs.World.{Fair, own, refused}
 
 -- what may differ from session to session
@@ -37,7 +37,8 @@ pub record Settings : Type 0 where
   pub stamp-fits : stampFits stamp ≡ true
   pub checks : Bool
 
--- the two ends, the area, the bytes on the way to the receiver and to the sender, and the tally
+-- the two ends, the area, the bytes on the way to the receiver and to the sender, the tally, and the first area with the
+-- file's bytes laid where bytes were stored
 pub record Config : Type 0 where
   pub snd : Sender
   pub rcv : Receiver
@@ -45,6 +46,7 @@ pub record Config : Type 0 where
   pub toR : List ℕ
   pub toS : List ℕ
   pub tally : ℕ
+  pub laid : List ℕ
 
 -- the receiver begins from the record's bytes that the session before left
 abbrev pub receiverBy : ℕ → Bool → Option (List ℕ) → Receiver
@@ -60,6 +62,7 @@ begins w t l = record {
   toR = [];
   toS = [];
   tally = l .tally;
+  laid = l .laid;
 }
 
 -- how far the kept count falls when these bytes are sent: 256, never under 0, at an RE
@@ -75,16 +78,18 @@ stepS c a = record {
   toR = c .toR ++ take (a .answer .sent) (a .reply);
   toS = drop (a .answer .taken) (c .toS);
   tally = c .tally;
+  laid = c .laid;
 }
 
-abbrev pub stepR : Config → Option (List ℕ) → ReceiverAfter → Config
-stepR c lent a = record {
+abbrev pub stepR : World → Config → Option (List ℕ) → ReceiverAfter → Config
+stepR w c lent a = record {
   snd = c .snd;
   rcv = a .answer .receiver;
   area = ours (c .area) (a .area) lent;
   toR = drop (a .answer .taken) (c .toR);
   toS = c .toS ++ take (a .answer .sent) (a .reply);
   tally = c .tally - fallOf (take (a .answer .sent) (a .reply)) + a .answer .stored;
+  laid = laidBy w (c .tally - fallOf (take (a .answer .sent) (a .reply))) (a .answer .stored) (c .laid);
 }
 
 module _ (w : World) where
@@ -109,7 +114,7 @@ module _ (w : World) where
 
   abbrev pub stepBy : Config → Option (List ℕ) → Made → Config
   stepBy c lent (bySender a) = stepS c a
-  stepBy c lent (byReceiver a) = stepR c lent a
+  stepBy c lent (byReceiver a) = stepR w c lent a
 
   abbrev pub step : Call → Config → Config
   step k c = stepBy c (k .lent) (made (k .act) c (k .reply) (k .lent) (k .handed))
@@ -136,4 +141,4 @@ module _ (w : World) where
     pub file : take (length (w .file)) (c .area) ≡ w .file
 
 abbrev pub leaves : Config → Left
-leaves c = record { area = c .area; saved = savedBytes (recordBy (c .rcv)); tally = c .tally }
+leaves c = record { area = c .area; saved = savedBytes (recordBy (c .rcv)); tally = c .tally; laid = c .laid }
