@@ -228,11 +228,20 @@ fn try_all(path: &[u8], seed: u64, file: &[u8]) {
     say(b": not a name that a header can carry\n", path)
 }
 
+// Whether bytes can be read: a folder opens, and gives none.
+fn is_readable(fd: i32) -> bool {
+    let mut none = [0; 0];
+    0 <= libc::read(fd, &mut none)
+}
+
 fn run(path: &[u8], seed: u64) {
     let mut space = file_space();
     let buf: &mut [u8] = &mut space;
     let fd = os::open_read(path);
     if fd < 0 {
+        return os::fail(path);
+    }
+    if !is_readable(fd) {
         return os::fail(path);
     }
     let n = io::read_full(fd, buf);
@@ -245,18 +254,28 @@ fn run_sample(seed: u64) {
     run(b"crates/transfer/data/bag-reads.csv", seed);
 }
 
-// The seed is a decimal number, 1 where none is given.
+fn run_seeded(path: &[u8], seed: &[u8]) {
+    match digit_reader::read_size(seed) {
+        numbers::Number::Value(n) => run(path, n as u64),
+        numbers::Number::Malformed => say(b"a seed is a number of at most 8 digits\n", b""),
+    }
+}
+
+// A path that is empty here was too long for its buffer, or empty. The seed is 1 where none is given.
 fn start(words: usize, path: &[u8], seed: &[u8]) {
     if words < 2 {
         return run_sample(1);
     }
+    if 3 < words {
+        return say(b"transfer [PATH [SEED]]\n", b"");
+    }
+    if path.len() == 0 {
+        return say(b"a path has 1 to 4096 bytes\n", b"");
+    }
     if words < 3 {
         return run(path, 1);
     }
-    match digit_reader::read_size(seed) {
-        numbers::Number::Value(n) => run(path, n as u64),
-        numbers::Number::Malformed => say(b": a seed is a number of at most 8 digits\n", seed),
-    }
+    run_seeded(path, seed)
 }
 
 fn main() {
