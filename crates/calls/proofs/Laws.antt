@@ -7,13 +7,34 @@ use native.Mathlib.Omega.{arith}
 use lib.ListN.{length}
 use lib.Dec.{ltb, eqb}
 use borrow.Author.Tests.{ltb-false, eqb-true, le-ltb}
+use Rattle.fields.specs.Pick.{pick}
 use Rattle.fields.specs.declared.Written.{Written}
 use Rattle.fields.specs.Buffer.{Form, formless, bytes, bytesIn, over, writtenOf, leftOf}
 use Rattle.fields.proofs.Buffer.{over-none}
 use Rattle.calls.specs.declared.Status.{Status}
 use Rattle.calls.specs.declared.Status.the-variants.{Taken, Over, LongFrame, SmallReply, WrongLength}
-use Rattle.calls.specs.Checks.{checkOf, isTaken, unless}
+use Rattle.calls.specs.Numbers.{statusNumber}
+use Rattle.calls.specs.Checks.{checkOf, checkNumber, isTaken, unless}
 use Rattle.calls.specs.Count.{countOf}
+
+-- the status of a call has the number that the checks give
+pub check-number : (ended : Bool) (reply frame lent given : ℕ)
+    → statusNumber (checkOf ended reply frame lent given) ≡ checkNumber ended reply frame lent given
+unfolding checkOf checkNumber statusNumber
+check-number ended reply frame lent given = go ended (ltb reply 259) (ltb 256 frame) (eqb lent given)
+  where
+    go : (e r f l : Bool)
+        → statusNumber (pick e Over (pick r SmallReply (pick f LongFrame (pick l Taken WrongLength)))) ≡ pick e 18 (pick r 20 (pick f 19 (pick l 0 40)))
+    go true r f l = refl
+    go false true f l = refl
+    go false false true l = refl
+    go false false false true = refl
+    go false false false false = refl
+
+-- so an answer that is that status has it
+pub numbered : (ended : Bool) (reply frame lent given : ℕ) (s : Status) → s ≡ checkOf ended reply frame lent given
+    → (s ≡ checkOf ended reply frame lent given) × (statusNumber s ≡ checkNumber ended reply frame lent given)
+numbered ended reply frame lent given s p = (p, ap statusNumber p ∙ check-number ended reply frame lent given)
 
 -- a call that is taken has room for a reply, a frame of at most 256 bytes, and the right file or area
 pub taken-room : (ended : Bool) (reply frame lent given : ℕ) → isTaken (checkOf ended reply frame lent given) ≡ true

@@ -15,6 +15,14 @@ checkOf ended reply frame lent given =
     (pick (ltb 256 frame) LongFrame
     (pick (eqb lent given) Taken WrongLength)))
 
+-- the same in document 01's numbers; 0 where the call is taken
+unfoldable pub checkNumber : Bool → ℕ → ℕ → ℕ → ℕ → ℕ
+checkNumber ended reply frame lent given =
+    pick ended 18
+    (pick (ltb reply 259) 20
+    (pick (ltb 256 frame) 19
+    (pick (eqb lent given) 0 40)))
+
 -- whether the call is taken
 abbrev pub isTaken : Status → Bool
 isTaken Taken = true

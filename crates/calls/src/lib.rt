@@ -2,7 +2,8 @@
 use fields::Stamp;
 use fields::Written;
 ghost use mathlib.Core.Path.{_≡_};
-ghost use Rattle.calls.specs.Checks.{checkOf, isTaken};
+ghost use Rattle.calls.specs.Numbers.{statusNumber};
+ghost use Rattle.calls.specs.Checks.{checkOf, checkNumber, isTaken};
 ghost use Rattle.calls.specs.Count.{countOf};
 
 // The least reply buffer, and the longest frame.
@@ -91,7 +92,7 @@ pub enum RecordAnswer {
 // Calls are checked 18, 20, 19, 40: whether the end has ended, how long the reply buffer and the frame are, and how long the lent file or
 // area is and was said to be at the start.
 pub fn check(ended: bool, reply: usize, frame: usize, lent: usize, given: usize) -> Status
-    ensures { λ r. ⌜ r ≡ checkOf ended reply frame lent given ⌝ }
+    ensures { λ r. ⌜ (r ≡ checkOf ended reply frame lent given) × (statusNumber r ≡ checkNumber ended reply frame lent given) ⌝ }
 {
     if ended {
         return Status::Over;

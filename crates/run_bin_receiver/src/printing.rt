@@ -2,7 +2,6 @@
 use calls::Outcome;
 use calls::RecordAnswer;
 use calls::Status;
-use fields::Written;
 use libc::STDOUT_FILENO;
 
 pub fn put(s: &[u8]) {
@@ -89,68 +88,29 @@ pub fn put_stored(label: &[u8], before: &[u8], after: &[u8]) {
     );
 }
 
-// Document 01's number.
-fn number_of(outcome: Outcome) -> usize {
-    match outcome {
-        Outcome::Success => 0,
-        Outcome::RecordUnreadable => 1,
-        Outcome::RecordOver => 2,
-        Outcome::NameOutside => 3,
-        Outcome::LengthOutside => 4,
-        Outcome::BlockOutside => 5,
-        Outcome::Unexpected => 6,
-        Outcome::Malformed => 7,
-        Outcome::NoRoom => 8,
-        Outcome::HaveFile => 9,
-        Outcome::Differs => 10,
-        Outcome::CheckFailed => 11,
-        Outcome::PastSize => 12,
-        Outcome::Short => 13,
-        Outcome::Refused => 14,
-        Outcome::Cancelled => 15,
-        Outcome::NotOurs => 16,
-        Outcome::TimedOut => 17,
-        Outcome::SecondFile => 21,
-        Outcome::Stopped => 23,
-    }
-}
-
 // An end's outcome, by its number.
 pub fn put_outcome(label: &[u8], outcome: Outcome) {
-    put_number(label, number_of(outcome));
-}
-
-// The number of a refused call; 0 where it was taken.
-fn refusal_of(status: Status) -> usize {
-    match status {
-        Status::Taken => 0,
-        Status::Over => 18,
-        Status::LongFrame => 19,
-        Status::SmallReply => 20,
-        Status::WrongLength => 40,
-    }
+    put_number(label, outcomes::outcome_number(outcome) as usize);
 }
 
 // Nothing where the call was taken.
 pub fn put_status(status: Status) {
-    let n = refusal_of(status);
+    let n = outcomes::status_number(status);
     if 0 < n {
-        put_number(b" refused ", n);
-    }
-}
-
-fn put_written(written: Written, buf: &[u8]) {
-    match written {
-        Written::Bytes(n) => put_text(b" -> ", fields::part(buf, 0, n)),
-        Written::Small => put(b" -> 20"),
-        Written::Formless => put(b" -> 22"),
+        put_number(b" refused ", n as usize);
     }
 }
 
 // What a receiver answers that is asked for its record: what it wrote into buf, or 20 or 22.
 pub fn put_answer(got: RecordAnswer, buf: &[u8]) {
+    let n = outcomes::record_answer_number(got);
+    if 0 < n {
+        return put_number(b" -> ", n as usize);
+    }
     match got {
         RecordAnswer::NoRecord => put(b" -> none"),
-        RecordAnswer::Record(written) => put_written(written, buf),
+        RecordAnswer::Record(written) => {
+            put_text(b" -> ", fields::part(buf, 0, calls::count(written)))
+        }
     }
 }

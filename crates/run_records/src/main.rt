@@ -44,9 +44,10 @@ fn print_record(b: &[u8], r: Record) {
 
 // What the bytes read as.
 fn print_read(b: &[u8]) {
-    match record_reader::record_of(b) {
+    let read = record_reader::record_of(b);
+    match read {
         RecordRead::Good(r) => print_record(b, r),
-        RecordRead::Unreadable => put(b" 1"),
+        RecordRead::Unreadable => put_number(b" ", outcomes::read_number(read) as usize),
     }
     put(b"\n");
 }
@@ -70,15 +71,13 @@ fn behind_colon(case: &[u8]) -> &[u8] {
 
 // What was written, and what that reads as.
 fn print_written(label: &[u8], buf: &[u8], written: Written) {
-    match written {
-        Written::Bytes(n) => {
-            print_bytes(fields::part(buf, 0, n));
-            put(b"\n");
-            read(label, fields::part(buf, 0, n));
-        }
-        Written::Small => put(b" 20\n"),
-        Written::Formless => put(b" 22\n"),
-    }
+    let Written::Bytes(n) = written else {
+        put_number(b" ", outcomes::written_number(written) as usize);
+        return put(b"\n");
+    };
+    print_bytes(fields::part(buf, 0, n));
+    put(b"\n");
+    read(label, fields::part(buf, 0, n));
 }
 
 // Writes the record of a name, which stands behind the label, into buf.

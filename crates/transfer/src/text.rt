@@ -1,13 +1,12 @@
 // The lines of the transcript. States, packets and frames are numbers here: the places of their words.
+use crate::printing::put;
 use crate::printing::put_number;
 use crate::printing::put_word;
 use bin::ReceiverState as BinReceiverState;
 use bin::SenderState as BinSenderState;
-use calls::Outcome;
 use lines::Frame;
 use yapp::ReceiverState;
 use yapp::SenderState;
-ghost use Prim.Native.Nat.{_≤_};
 
 // An end that ended with success, as the four functions below number it.
 pub const SUCCESS: usize = 480;
@@ -20,57 +19,31 @@ pub const RECEIVER: usize = 1;
 // A #BIN# sender in the midst of the file.
 pub const SENDING: usize = 320;
 
-// Document 01's number of an outcome.
-fn outcome_number(outcome: Outcome) -> usize
-    ensures { λ r. ⌜ r ≤ 23 ⌝ }
-{
-    match outcome {
-        Outcome::Success => 0,
-        Outcome::RecordUnreadable => 1,
-        Outcome::RecordOver => 2,
-        Outcome::NameOutside => 3,
-        Outcome::LengthOutside => 4,
-        Outcome::BlockOutside => 5,
-        Outcome::Unexpected => 6,
-        Outcome::Malformed => 7,
-        Outcome::NoRoom => 8,
-        Outcome::HaveFile => 9,
-        Outcome::Differs => 10,
-        Outcome::CheckFailed => 11,
-        Outcome::PastSize => 12,
-        Outcome::Short => 13,
-        Outcome::Refused => 14,
-        Outcome::Cancelled => 15,
-        Outcome::NotOurs => 16,
-        Outcome::TimedOut => 17,
-        Outcome::SecondFile => 21,
-        Outcome::Stopped => 23,
-    }
-}
-
 // An outcome's number and its words; 18, 19, 20 and 22 are no outcomes.
 fn print_outcome(number: usize) {
+    put_number(b"|", 0, number);
+    put(b" ");
     put_word(
-        b"0 success|\
-          1 record unreadable|\
-          2 record over its limits|\
-          3 name outside the limits|\
-          4 file length outside the limits|\
-          5 block outside the limits|\
-          6 packet unexpected or unreadable|\
-          7 header, line or OK malformed|\
-          8 file larger than the area|\
-          9 record without resume|\
-          10 record of another file|\
-          11 checksum or CRC disagrees|\
-          12 data past the announced size|\
-          13 end before the announced size|\
-          14 refused by the far end|\
-          15 cancelled by the far end|\
-          16 resume not ours|\
-          17 timer ran out|\
-          |||21 second file|\
-          |23 stopped by the operator|",
+        b"success|\
+          record unreadable|\
+          record over its limits|\
+          name outside the limits|\
+          file length outside the limits|\
+          block outside the limits|\
+          packet unexpected or unreadable|\
+          header, line or OK malformed|\
+          file larger than the area|\
+          record without resume|\
+          record of another file|\
+          checksum or CRC disagrees|\
+          data past the announced size|\
+          end before the announced size|\
+          refused by the far end|\
+          cancelled by the far end|\
+          resume not ours|\
+          timer ran out|\
+          |||second file|\
+          |stopped by the operator|",
         number,
     );
 }
@@ -93,8 +66,8 @@ pub fn sender_number(state: SenderState) -> usize {
         SenderState::SD { .. } => 64,
         SenderState::SE => 96,
         SenderState::ST => 128,
-        SenderState::CW { outcome } => 448 + outcome_number(outcome),
-        SenderState::Ended { outcome } => 480 + outcome_number(outcome),
+        SenderState::CW { outcome } => 448 + outcomes::outcome_number(outcome) as usize,
+        SenderState::Ended { outcome } => 480 + outcomes::outcome_number(outcome) as usize,
     }
 }
 
@@ -103,8 +76,8 @@ pub fn receiver_number(state: ReceiverState) -> usize {
         ReceiverState::R => 160,
         ReceiverState::RH { whole: _ } => 192,
         ReceiverState::RD => 224,
-        ReceiverState::CW { outcome } => 448 + outcome_number(outcome),
-        ReceiverState::Ended { outcome } => 480 + outcome_number(outcome),
+        ReceiverState::CW { outcome } => 448 + outcomes::outcome_number(outcome) as usize,
+        ReceiverState::Ended { outcome } => 480 + outcomes::outcome_number(outcome) as usize,
     }
 }
 
@@ -113,7 +86,7 @@ pub fn bin_sender_number(state: BinSenderState) -> usize {
         BinSenderState::Start => 256,
         BinSenderState::Wait => 288,
         BinSenderState::Send { at: _ } => 320,
-        BinSenderState::Ended { outcome } => 480 + outcome_number(outcome),
+        BinSenderState::Ended { outcome } => 480 + outcomes::outcome_number(outcome) as usize,
     }
 }
 
@@ -122,7 +95,7 @@ pub fn bin_receiver_number(state: BinReceiverState) -> usize {
         BinReceiverState::Waiting => 352,
         BinReceiverState::Basic { .. } => 384,
         BinReceiverState::Extended { crc: _ } => 416,
-        BinReceiverState::Ended { outcome } => 480 + outcome_number(outcome),
+        BinReceiverState::Ended { outcome } => 480 + outcomes::outcome_number(outcome) as usize,
     }
 }
 

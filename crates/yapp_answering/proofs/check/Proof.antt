@@ -14,7 +14,7 @@ check-requires : tie.Need-check-requires
 check-requires c κs = search needs
 
 returns : tie.Need-returns
-returns c = c .check .ensures ∙ rw (c .before .before .is-ended .ensures)
+returns c = c .check .ensures .0 ∙ rw (c .before .before .is-ended .ensures)
 
 pub check-spec : {M : Type 1} → statement M
 check-spec =

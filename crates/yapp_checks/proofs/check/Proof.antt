@@ -10,7 +10,7 @@ check-requires : tie.Need-check-requires
 check-requires c κs = search needs
 
 returns : tie.Need-returns
-returns c = rw (c .check .ensures, c .before .is-ended .ensures)
+returns c = rw (c .check .ensures .0, c .before .is-ended .ensures)
 
 pub check-spec : {M : Type 1} → statement M
 check-spec = tie.close (tie.spec is-ended-requires check-requires returns)
