@@ -7,20 +7,8 @@ use calls::Keeping;
 use calls::Outcome;
 use fields::Place;
 ghost use mathlib.Core.Path.{_≡_};
-ghost use Prim.Native.Nat.{_+_};
-ghost use lib.Dec.{leb};
 ghost use Rattle.bin_steps.specs.Steps.{doneAs};
 ghost use Rattle.bin_storing.specs.Storing.{entryFrame, extendedFrame, basicFrame, sortedStep};
-
-// Whether n bytes more stay within the size.
-fn fits(kept: u32, n: usize, size: u32) -> bool
-    ensures { λ r. ⌜ r ≡ leb (kept + n) size ⌝ }
-{
-    if kept <= size {
-        return n <= (size - kept) as usize;
-    }
-    false
-}
 
 // A frame of the file is stored directly behind the kept bytes, and is counted as kept in the same step.
 fn store(crc: u16, entry: Entry, frame: &[u8], area: &mut [u8]) -> Step
@@ -29,7 +17,7 @@ fn store(crc: u16, entry: Entry, frame: &[u8], area: &mut [u8]) -> Step
     let stamp = entry.stamp;
     let from = entry.kept;
     let n = frame.len();
-    if fits(from, n, entry.size) {
+    if keeping::fits(from, n, entry.size) {
         let at = from as usize;
         buffers::append_bytes(area, at, frame);
         let next = Entry {
@@ -58,7 +46,7 @@ fn store_basic(size: u32, kept: u32, keeping: Keeping, frame: &[u8], area: &mut 
     ensures { λ r. ⌜ basicFrame size kept keeping (now (frame .entry)) (now (area .entry)) ≡ doneAs r (now (area .exit)) ⌝ }
 {
     let n = frame.len();
-    if fits(kept, n, size) {
+    if keeping::fits(kept, n, size) {
         buffers::append_bytes(area, kept as usize, frame);
         return bin_steps::basic_at(size, kept + n as u32, keeping, Out::Silent, n);
     }

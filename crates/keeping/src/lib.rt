@@ -1,8 +1,10 @@
-// What a receiver keeps of a file: whether a record matches, and how it is written.
+// What a receiver keeps of a file: whether more of it fits, whether a record matches, and how it is written.
 use calls::Entry;
 use calls::Keeping;
 use calls::RecordAnswer;
 ghost use mathlib.Core.Path.{_≡_};
+ghost use Prim.Native.Nat.{_+_};
+ghost use lib.Dec.{leb};
 ghost use Rattle.calls.specs.Saving.{savedBy, heldOf, isWithin, matchesOf, formBy};
 ghost use Rattle.calls.specs.Recording.{recordAnswer, recordLeft};
 
@@ -33,6 +35,16 @@ pub fn is_within(kept: u32, size: u32, room: usize) -> bool
         return size as usize <= room;
     }
     false
+}
+
+// Whether n bytes more stay within the size.
+pub fn fits(kept: u32, n: usize, size: u32) -> bool
+    ensures { λ r. ⌜ r ≡ leb (kept + n) size ⌝ }
+{
+    if size < kept {
+        return false;
+    }
+    n <= (size - kept) as usize
 }
 
 // Whether a header or line with this name and size is the record's, whose name stands in held.

@@ -2,11 +2,10 @@
 use mathlib.Core.Path.{_≡_, refl, sym, _∙_}
 use mathlib.Core.Bool.{Bool, true, false}
 use mathlib.Core.List.{List, []}
-use Prim.Native.Nat.{ℕ, _+_, _-_, _<_, _≤_}
-use native.Mathlib.Omega.{arith}
+use Prim.Native.Nat.{ℕ, _+_}
 use lib.Dec.{leb}
 use lib.ListN.{length}
-use borrow.Author.Tests.{leb-true, leb-false, le-leb, lt-leb, eq-eqb, ne-eqb}
+use borrow.Author.Tests.{eq-eqb, ne-eqb}
 use Rattle.fields.specs.Buffer.{appended}
 use Rattle.calls.specs.declared.Keeping.{Keeping}
 use Rattle.calls.specs.declared.Keeping.the-variants.{Nothing, Of}
@@ -62,14 +61,3 @@ module _ (c : Current) (name a p : List ℕ) where
     stores-within e =
         let within : leb (keptOf (savedBy (c .keeping) name) + length d) (sizeOf (savedBy (c .keeping) name)) ≡ true = rw (b, k, z) at e in
         rw (h, b, k, within, grown-kept (c .keeping) (length d), grown-name (c .keeping) (length d))
-
--- what is left compared with what comes
-pub left-leb : (kept n size : ℕ) → kept ≤ size → leb n (size - kept) ≡ leb (kept + n) size
-left-leb kept n size h = go (leb n (size - kept)) refl
-  where
-    go : (b : Bool) → leb n (size - kept) ≡ b → b ≡ leb (kept + n) size
-    go true e = let z = leb-true n (size - kept) e in sym (le-leb (kept + n) size (omega arith))
-    go false e = let z = leb-false n (size - kept) e in sym (lt-leb (kept + n) size (omega arith))
-
-pub over-leb : (kept n size : ℕ) → size < kept → false ≡ leb (kept + n) size
-over-leb kept n size h = sym (lt-leb (kept + n) size (omega arith))

@@ -10,8 +10,7 @@ use yapp_steps::Out;
 use yapp_steps::Step;
 ghost use mathlib.Core.Path.{_≡_};
 ghost use mathlib.Core.List.{List};
-ghost use Prim.Native.Nat.{ℕ, _+_};
-ghost use lib.Dec.{leb};
+ghost use Prim.Native.Nat.{ℕ};
 ghost use Rattle.fields.specs.Lists.{bytesAt};
 ghost use Rattle.calls.specs.Saving.{savedBy, keptOf, sizeOf};
 ghost use Rattle.yapp.specs.Steps.{stores, endsFile};
@@ -34,16 +33,6 @@ fn size_of(keeping: Keeping) -> u32
         Keeping::Nothing => 0,
         Keeping::Of(e) => e.size,
     }
-}
-
-// Whether n bytes more are within the size.
-fn fits(kept: u32, n: usize, size: u32) -> bool
-    ensures { λ r. ⌜ r ≡ leb (kept + n) size ⌝ }
-{
-    if kept <= size {
-        return n <= (size - kept) as usize;
-    }
-    false
 }
 
 // The record with another kept count.
@@ -94,14 +83,15 @@ pub fn store_block(
 ) -> Step
     ensures { λ r. ⌜ ((p : List ℕ) → reached (now (name .entry)) (stores (nowBy current (now (name .entry))) (now (area .entry)) (bytesAt (now (pending .entry)) (block .place)) (block .flag)) ≡ reachedBy p (now (name .entry)) r (now (area .exit))) ⌝ }
 {
+    let keeping = current.keeping;
+    let place = block.place;
+    let bytes = fields::bytes_at(pending, place);
+    let n = bytes.len();
+    let kept = kept_of(keeping);
+    let size = size_of(keeping);
+    let within = keeping::fits(kept, n, size);
     if block.flag {
-        let keeping = current.keeping;
-        let place = block.place;
-        let bytes = fields::bytes_at(pending, place);
-        let n = bytes.len();
-        let kept = kept_of(keeping);
-        let size = size_of(keeping);
-        if fits(kept, n, size) {
+        if within {
             buffers::append_bytes(area, kept as usize, bytes);
             return grow(current, name, kept + n as u32, n);
         }

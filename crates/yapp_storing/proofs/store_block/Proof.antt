@@ -30,12 +30,12 @@ append-bytes-requires c κs = search needs
 
 cast-grow : tie.Need-cast-grow
 cast-grow c =
-    let z : c .before .before .before .before .before .before .before .kept-of .result + length (now (c .before .before .before .before .before .before .before .before .bytes-at .result)) ≤ c .before .before .before .before .before .before .size-of .result = leb-true _ _ (sym (c .before .before .before .before .before .fits2 .ensures) ∙ c .before .before .before .before .if2 .taken) in
+    let z : c .before .before .before .before .before .before .before .before .kept-of .result + length (now (c .before .before .before .before .before .before .before .before .before .bytes-at .result)) ≤ c .before .before .before .before .before .before .before .size-of .result = leb-true _ _ (sym (c .before .before .before .before .before .before .fits2 .ensures) ∙ c .before .before .before .before .if2 .taken) in
     omega arith
 
 add-grow : tie.Need-add-grow
 add-grow c =
-    let z : c .before .before .before .before .before .before .before .kept-of .result + length (now (c .before .before .before .before .before .before .before .before .bytes-at .result)) ≤ c .before .before .before .before .before .before .size-of .result = leb-true _ _ (sym (c .before .before .before .before .before .fits2 .ensures) ∙ c .before .before .before .before .if2 .taken) in
+    let z : c .before .before .before .before .before .before .before .before .kept-of .result + length (now (c .before .before .before .before .before .before .before .before .before .bytes-at .result)) ≤ c .before .before .before .before .before .before .before .size-of .result = leb-true _ _ (sym (c .before .before .before .before .before .before .fits2 .ensures) ∙ c .before .before .before .before .if2 .taken) in
     omega arith
 
 grow-requires : tie.Need-grow-requires
@@ -47,7 +47,7 @@ same-length c = search needs
 returns : tie.Need-returns
 returns c p =
     let g = c .before .before .before .before .before .before .before .before .before .before .before .before .before .before .before .args in
-    rw (c .grow .ensures, c .before .before .before .append-bytes .ensures .1) (stores-within (g .current) (now (g .name)) (now (g .area)) p _ (g .block .flag) _ _ _ (c .before .before .before .before .before .before .before .before .before .before .before .if1 .taken) (c .before .before .before .before .before .before .before .before .before .bytes-at .ensures) (c .before .before .before .before .before .before .before .before .kept-of .ensures (now (g .name))) (c .before .before .before .before .before .before .before .size-of .ensures (now (g .name))) (sym (c .before .before .before .before .before .before .fits2 .ensures) ∙ c .before .before .before .before .before .if2 .taken))
+    rw (c .grow .ensures, c .before .before .before .append-bytes .ensures .1) (stores-within (g .current) (now (g .name)) (now (g .area)) p _ (g .block .flag) _ _ _ (c .before .before .before .before .before .before .if1 .taken) (c .before .before .before .before .before .before .before .before .before .before .bytes-at .ensures) (c .before .before .before .before .before .before .before .before .before .kept-of .ensures (now (g .name))) (c .before .before .before .before .before .before .before .before .size-of .ensures (now (g .name))) (sym (c .before .before .before .before .before .before .before .fits2 .ensures) ∙ c .before .before .before .before .before .if2 .taken))
 
 fail-requires : tie.Need-fail-requires
 fail-requires c κs = search needs
@@ -55,14 +55,14 @@ fail-requires c κs = search needs
 returns-2 : tie.Need-returns-2
 returns-2 c p =
     let g = c .before .before .before .before .before .before .before .before .before .before .before .args in
-    rw (c .fail .ensures) (stores-past (g .current) (now (g .name)) (now (g .area)) p _ (g .block .flag) _ _ _ (c .before .before .before .before .before .before .before .if1 .taken) (c .before .before .before .before .before .bytes-at .ensures) (c .before .before .before .before .kept-of .ensures (now (g .name))) (c .before .before .before .size-of .ensures (now (g .name))) (sym (c .before .before .fits2 .ensures) ∙ c .before .if2 .left))
+    rw (c .fail .ensures) (stores-past (g .current) (now (g .name)) (now (g .area)) p _ (g .block .flag) _ _ _ (c .before .before .if1 .taken) (c .before .before .before .before .before .before .bytes-at .ensures) (c .before .before .before .before .before .kept-of .ensures (now (g .name))) (c .before .before .before .before .size-of .ensures (now (g .name))) (sym (c .before .before .before .fits2 .ensures) ∙ c .before .if2 .left))
 
 fail-requires-2 : tie.Need-fail-requires-2
 fail-requires-2 c κs = search needs
 
 returns-3 : tie.Need-returns-3
 returns-3 c p =
-    let g = c .before .before .before .before .before .args in
+    let g = c .before .before .before .before .before .before .before .before .before .before .args in
     rw (c .fail2 .ensures) (stores-unsound (g .current) (now (g .name)) (now (g .area)) p _ (g .block .flag) (c .before .if1 .left))
 
 pub store-block-spec : {M : Type 1} → statement M
