@@ -73,12 +73,12 @@ unfoldable pub sendsFrom : List ℕ → ℕ → SenderState
 sendsFrom file n = pick (leb (length file) n) (Ended Success) (Send n)
 
 -- leave: the first sends the line; while waiting it changes nothing; then each sends the next frame
-unfoldable pub senderLeaves : SenderSettings → List ℕ → SenderState → SenderMove
-senderLeaves s file Start = goes Wait (lineOf s file ∷ [])
-senderLeaves s file Wait = goes Wait []
-senderLeaves s file (Send n) =
+unfoldable pub senderTransmits : SenderSettings → List ℕ → SenderState → SenderMove
+senderTransmits s file Start = goes Wait (lineOf s file ∷ [])
+senderTransmits s file Wait = goes Wait []
+senderTransmits s file (Send n) =
     goes (sendsFrom file (n + length (cut (s .block) (drop n file)))) (cut (s .block) (drop n file) ∷ [])
-senderLeaves s file (Ended o) = goes (Ended o) []
+senderTransmits s file (Ended o) = goes (Ended o) []
 
 -- whether `?` was sent
 abbrev pub announcesResume : Announce → Bool

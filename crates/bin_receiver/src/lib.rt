@@ -69,7 +69,7 @@ impl Receiver {
         }
     }
 
-    // A receiver with the record that these bytes are; one that is unreadable is 1.
+    // A receiver with the record that these bytes are; unreadable ones are 1, a record out of its limits is 2.
     pub fn resume(bytes: &[u8], room: usize, resumes: bool) -> Self
         ensures { λ r. ⌜ r ≡ resumeOf (now (bytes .entry)) room resumes ⌝ }
     {

@@ -19,7 +19,7 @@ use Rattle.bin.specs.declared.SenderState.the-variants.{Start, Ended}
 use Rattle.bin_frames.specs.Frames.{blockOf}
 use Rattle.bin_sender.specs.declared.Sender.{Sender}
 use Rattle.bin_sender.specs.declared.SenderAnswer.{SenderAnswer}
-use Rattle.bin.specs.Steps.{joined, SenderSettings, SenderMove, senderTakes, senderLeaves, senderFails, senderEnded}
+use Rattle.bin.specs.Steps.{joined, SenderSettings, SenderMove, senderTakes, senderTransmits, senderFails, senderEnded}
 
 -- ---- the beginnings: 3, 4, 5 in this order
 
@@ -94,7 +94,7 @@ unlessRefused s m reply after = unless s (λ (x : Status). refusedCall m x reply
 -- leave
 unfoldable pub transmit : Sender → List ℕ → List ℕ → SenderAfter
 transmit m file reply =
-    unlessRefused (statusOf m 0 file reply) m reply (replied m (senderLeaves (settingsOf m) file (m .core .state)) reply)
+    unlessRefused (statusOf m 0 file reply) m reply (replied m (senderTransmits (settingsOf m) file (m .core .state)) reply)
 
 -- a frame has arrived
 unfoldable pub receive : Sender → List ℕ → List ℕ → List ℕ → SenderAfter

@@ -138,14 +138,14 @@ impl Sender {
     pub fn transmit(self, file: &[u8], reply: &mut [u8]) -> SenderAnswer
         ensures { λ r. ⌜ transmitOf self (now (file .entry)) (now (reply .entry)) ≡ record { answer = r; reply = now (reply .exit) } ⌝ }
     {
-        settled(self, Event::Leave, file, reply)
+        settled(self, Event::Transmit, file, reply)
     }
 
     // A frame has arrived.
     pub fn receive(self, frame: &[u8], file: &[u8], reply: &mut [u8]) -> SenderAnswer
         ensures { λ r. ⌜ receiveOf self (now (frame .entry)) (now (file .entry)) (now (reply .entry)) ≡ record { answer = r; reply = now (reply .exit) } ⌝ }
     {
-        called(self, Event::Take, frame, file, reply)
+        called(self, Event::Receive, frame, file, reply)
     }
 
     // The timer ran out.

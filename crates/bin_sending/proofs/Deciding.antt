@@ -18,7 +18,7 @@ use Rattle.calls.specs.declared.Status.the-variants.{Taken}
 use Rattle.bin.specs.declared.SenderState.{SenderState}
 use Rattle.bin.specs.declared.SenderState.the-variants.{Start, Wait, Send, Ended}
 use Rattle.bin.proofs.SenderState.{the-type}
-use Rattle.bin.specs.Steps.{SenderSettings, SenderMove, cut, heard, goes, sendsFrom, senderLeaves, senderHears, senderSends, senderTakes, senderEnded}
+use Rattle.bin.specs.Steps.{SenderSettings, SenderMove, cut, heard, goes, sendsFrom, senderTransmits, senderHears, senderSends, senderTakes, senderEnded}
 use Rattle.bin_frames.specs.declared.Out.the-variants.{Nothing, Line, Data}
 use Rattle.bin_sending.specs.declared.Step.{Step}
 use Rattle.bin_sending.specs.Sending.{doneBy, does}
@@ -34,17 +34,17 @@ module _ (s : SenderSettings) (file : List ℕ) where
   -- ---- leave
 
   pub leaves-start : (st : SenderState) → st ≡ Start
-      → doneBy s file (record { status = Taken; state = Wait; out = Line }) ≡ does (senderLeaves s file st)
-  unfolding senderLeaves
+      → doneBy s file (record { status = Taken; state = Wait; out = Line }) ≡ does (senderTransmits s file st)
+  unfolding senderTransmits
   leaves-start st e = rw e
 
   pub leaves-send : (st r : SenderState) (n : ℕ) (frame : List ℕ) → st ≡ Send n → frame ≡ cut (s .block) (drop n file)
-      → r ≡ sendsFrom file (n + length frame) → doneBy s file (record { status = Taken; state = r; out = Data n }) ≡ does (senderLeaves s file st)
-  unfolding senderLeaves
+      → r ≡ sendsFrom file (n + length frame) → doneBy s file (record { status = Taken; state = r; out = Data n }) ≡ does (senderTransmits s file st)
+  unfolding senderTransmits
   leaves-send st r n frame e f q = rw (e, q, f)
 
-  pub leaves-none : (st : SenderState) → OneOf (1 ∷ 3 ∷ []) (tagOf the-type st) → goes st [] ≡ senderLeaves s file st
-  unfolding senderLeaves
+  pub leaves-none : (st : SenderState) → OneOf (1 ∷ 3 ∷ []) (tagOf the-type st) → goes st [] ≡ senderTransmits s file st
+  unfolding senderTransmits
   leaves-none Start k = absurd (miss (1 ∷ 3 ∷ []) 0 tt k)
   leaves-none Wait k = refl
   leaves-none (Send n) k = absurd (miss (1 ∷ 3 ∷ []) 2 tt k)

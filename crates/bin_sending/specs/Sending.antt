@@ -5,10 +5,10 @@ use Rattle.calls.specs.declared.Status.{Status}
 use Rattle.calls.specs.declared.Status.the-variants.{Taken}
 use Rattle.calls.specs.Checks.{unless}
 use Rattle.bin.specs.declared.SenderState.{SenderState}
-use Rattle.bin.specs.Steps.{SenderSettings, SenderMove, goes, senderLeaves, senderTakes, senderFails}
+use Rattle.bin.specs.Steps.{SenderSettings, SenderMove, goes, senderTransmits, senderTakes, senderFails}
 use Rattle.bin_frames.specs.Frames.{framesOf}
 use Rattle.bin_sending.specs.declared.Event.{Event}
-use Rattle.bin_sending.specs.declared.Event.the-variants.{Leave, Take, Fail}
+use Rattle.bin_sending.specs.declared.Event.the-variants.{Transmit, Receive, Fail}
 use Rattle.bin_sending.specs.declared.Step.{Step}
 
 -- what a call does: whether it is taken, and the move
@@ -33,6 +33,6 @@ ifTaken s st a = unless s (refuses st) (does a)
 
 -- what an event does, with the frame that came
 abbrev pub moveBy : SenderSettings → List ℕ → SenderState → List ℕ → Event → SenderMove
-moveBy s file st frame Leave = senderLeaves s file st
-moveBy s file st frame Take = senderTakes s file st frame
+moveBy s file st frame Transmit = senderTransmits s file st
+moveBy s file st frame Receive = senderTakes s file st frame
 moveBy s file st frame (Fail o) = senderFails o st

@@ -16,7 +16,7 @@ ghost use Rattle.crc.specs.Crc.{crcOf};
 ghost use Rattle.calls.specs.declared.Status.the-variants.{Taken};
 ghost use Rattle.calls.specs.Checks.{checkOf};
 ghost use Rattle.bin.specs.declared.SenderState.the-variants.{Ended};
-ghost use Rattle.bin.specs.Steps.{heard, sendsFrom, announcesResume, senderEnded, senderLeaves, resumesAt, senderHears, senderTakes};
+ghost use Rattle.bin.specs.Steps.{heard, sendsFrom, announcesResume, senderEnded, senderTransmits, resumesAt, senderHears, senderTakes};
 ghost use Rattle.bin_frames.specs.declared.Out.the-variants.{Nothing, Stop};
 ghost use Rattle.bin_frames.specs.Frames.{settingsBy};
 ghost use Rattle.bin_sending.specs.Sending.{doneBy, does, ifTaken, moveBy};
@@ -24,9 +24,9 @@ ghost use Rattle.bin_sending.specs.Sending.{doneBy, does, ifTaken, moveB
 // What the host brings.
 pub enum Event {
     // A chance to send.
-    Leave,
+    Transmit,
     // A frame has come.
-    Take,
+    Receive,
     // Timer or operator's stop, by the number that it ends with.
     Fail { outcome: Outcome },
 }
@@ -76,7 +76,7 @@ fn sends_from(file: &[u8], n: usize) -> SenderState
 // A chance to send: the line, or the next frame of the file.
 fn leaves(core: SenderCore, file: &[u8]) -> Step
     requires { ⌜ length (now file) ≤ 4294967295 ⌝ }
-    ensures { λ r. ⌜ ((name : List ℕ) → doneBy (settingsBy core name) (now (file .entry)) r ≡ does (senderLeaves (settingsBy core name) (now (file .entry)) (core .state))) ⌝ }
+    ensures { λ r. ⌜ ((name : List ℕ) → doneBy (settingsBy core name) (now (file .entry)) r ≡ does (senderTransmits (settingsBy core name) (now (file .entry)) (core .state))) ⌝ }
 {
     let state = core.state;
     match state {
@@ -190,8 +190,8 @@ pub fn decides(core: SenderCore, event: Event, frame: &[u8], file: &[u8], reply:
     let status = calls::check(is_ended(state), reply, frame.len(), file.len(), size);
     if calls::is_taken(status) {
         return match event {
-            Event::Leave => leaves(core, file),
-            Event::Take => takes(core, frame, file),
+            Event::Transmit => leaves(core, file),
+            Event::Receive => takes(core, frame, file),
             Event::Fail { outcome } => stops(outcome),
         };
     }

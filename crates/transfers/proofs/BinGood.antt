@@ -29,7 +29,7 @@ use Rattle.bin.specs.declared.SenderState.the-variants.{Start, Wait, Send, Ende
 use Rattle.bin.specs.declared.ReceiverState.{ReceiverState}
 use Rattle.bin.specs.declared.ReceiverState.the-variants.{Waiting, Basic as TakesBasic, Extended as Takes, Ended as Over}
 use Rattle.bin.specs.Steps.{bytesIn, heard, SenderSettings, SenderMove, goes, sendsFrom, resumesAt, senderHears, senderTakes, senderFails, ReceiverSettings, ReceiverMove, answers, says, judgeWhole, judgeRecord, judgeExtended, receiverHears, takesFrame, receiverFails}
-use Rattle.transfers.specs.MachinesBin.{cut, senderLeaves, receiverTakes}
+use Rattle.transfers.specs.MachinesBin.{cut, senderTransmits, receiverTakes}
 use Rattle.transfers.specs.World.{World}
 use Rattle.transfers.specs.Bin.{Settings}
 use Rattle.transfers.proofs.Stored.{Stored, Stores, unmoved, kept-within}
@@ -198,8 +198,8 @@ module _ (w : World) where
       SentOn a r v lr ls o = Inv (a .state) r v (sentTo lr (a .out) reply) ls o
 
       send-frame : {o : Bool} {k p : ℕ} {m : Stamp} {l : List (List ℕ)} → p < length (w .file) → Frames (w .file) [] k p l
-          → SentOn (senderLeaves ourSender (w .file) (Send p)) (Takes (crcOf (w .file))) (held w k m) l [] o
-      unfolding senderLeaves sendsFrom
+          → SentOn (senderTransmits ourSender (w .file) (Send p)) (Takes (crcOf (w .file))) (held w k m) l [] o
+      unfolding senderTransmits sendsFrom
       send-frame {o} {k} {p} {m} {l} h r = rw (sent-one l d reply (c .block .filled)) (go (leb (length (w .file)) (p + length d)) refl)
         where
           d : List ℕ
@@ -226,8 +226,8 @@ module _ (w : World) where
           rw (le-leb (length (w .file)) k le) (good (g4 {l = []} (all-there e) (rw e sent)))
 
       pub inv-leaves : {o : Bool} {s : SenderState} {r : ReceiverState} {v : Option Saved} {lr ls : List (List ℕ)} → Inv s r v lr ls o
-          → SentOn (senderLeaves ourSender (w .file) s) r v lr ls o
-      unfolding senderLeaves
+          → SentOn (senderTransmits ourSender (w .file) s) r v lr ls o
+      unfolding senderTransmits
       inv-leaves (good g0) =
           rw (sent-one [] (lineFrame (t .stamp)) reply (line-said w (t .stamp) (t .stamp-fits) .some-bytes)) (good (g1 (t .stamp-fits)))
       inv-leaves (good (g1 x)) = good (g1 x)

@@ -32,7 +32,7 @@ use Rattle.bin.specs.Steps.{joined}
 use Rattle.bin_sender.specs.Sender as sender
 use Rattle.bin_receiver.specs.Receiver as receiver
 use Rattle.calls.specs.Saving.{formBy}
-use Rattle.transfers.specs.MachinesBin.{senderLeaves, transmit, receiverTakes, receive}
+use Rattle.transfers.specs.MachinesBin.{senderTransmits, transmit, receiverTakes, receive}
 use Rattle.transfers.specs.World.{World, Left, Act, transmitS, timeoutS, cancelS, transmitR, timeoutR, cancelR, receiveS, receiveR, Call, lentOr, ours, savedBytes, laidBy, Calm, AllCalm}
 use Rattle.transfers.specs.Bin.{Settings, Config, receiverBy, begins, front, behindFront, leftBy, stepS, stepR, made, statusIn, stepBy, step, runs, Fair, own, refused, Fairly, Quiet, Complete, leaves}
 use Rattle.transfers.proofs.Stored.{Ours, Stored, Between, lays-none, ours-form, ours-back, name-back, saved-back, name-room, name-short}
@@ -137,7 +137,7 @@ module _ (w : World) (t : Settings) where
     serve-transmitS : Served o transmitS now
     unfolding transmit
     serve-transmitS reply lent handed f =
-        sender-call (λ (g : Option (List ℕ)) (file : List ℕ). senderLeaves (sender.settingsOf (senderAt w t s)) file s) (λ (x : Status). ls) reply lent handed
+        sender-call (λ (g : Option (List ℕ)) (file : List ℕ). senderTransmits (sender.settingsOf (senderAt w t s)) file s) (λ (x : Status). ls) reply lent handed
         (sender.statusOf (senderAt w t s) 0 (lentOr (w .file) lent) reply) f (refl, refl, refl, refl)
         (rw (settings-are w t s) (inv-leaves w t reply (n .inv)))
 
@@ -280,7 +280,7 @@ module _ (w : World) (t : Settings) where
   -- ---- run to its end
 
   nothing-more : (s : SenderState) → senderEnded s ≡ false → ((reply : List ℕ) → transmit (senderAt w t s) (w .file) reply .answer .sent ≡ 0)
-      → length (joined (senderLeaves (ourSender w t) (w .file) s .out)) ≡ 0
+      → length (joined (senderTransmits (ourSender w t) (w .file) s .out)) ≡ 0
   unfolding transmit checkOf
   nothing-more s e q = rw (e, eq-eqb (length (w .file)) (length (w .file)) refl, settings-are w t s) at (q (replicate 259 0))
 
@@ -296,7 +296,7 @@ module _ (w : World) (t : Settings) where
   done : {s : SenderState} {r : ReceiverState} {v : Option Saved} {lr ls : List (List ℕ)} → Good w s r v lr ls
       → (senderEnded s ≡ true) ⊎ (ls ≡ []) → (receiverEnded r ≡ true) ⊎ (lr ≡ [])
       → ((reply : List ℕ) → transmit (senderAt w t s) (w .file) reply .answer .sent ≡ 0) → Done s r v
-  unfolding senderLeaves
+  unfolding senderTransmits
   done g0 a b e =
       let z = nothing-more Start refl e in
       let y = line-said w (t .stamp) (t .stamp-fits) .some-bytes in

@@ -17,7 +17,7 @@ use Rattle.reader.specs.declared.Received.{Received}
 use Rattle.reader.specs.Reader.{checking, receive as reads}
 use Rattle.yapp.specs.declared.SenderState.{SenderState}
 use Rattle.yapp.specs.declared.ReceiverState.{ReceiverState}
-use Rattle.yapp.specs.Steps.{SenderMove, ReceiverMove, writes, senderTakes, senderLeaves, senderTimes, senderStops, receiverTimes, receiverStops}
+use Rattle.yapp.specs.Steps.{SenderMove, ReceiverMove, writes, senderTakes, senderTransmits, senderTimesOut, senderCancels, receiverTimesOut, receiverCancels}
 use Rattle.yapp_core.specs.Core.{heard}
 use Rattle.transfers.specs.MachinesYapp.{receiverTakes}
 use Rattle.transfers.specs.World.{World}
@@ -75,7 +75,7 @@ module _ (w : World) (t : Settings) where
   sends-block b p false e = plain-sends (all-cons word-ef all-nil)
 
   sends-good : {st : SenderState} {a : Bool} {rs : ReceiverState} {b : Bool} {v : Option Saved} {lr ls : List Content} → Good w t st a rs b v lr ls
-      → Sends b (senderLeaves (senderSet w t) (w .file) st a .checked) (senderLeaves (senderSet w t) (w .file) st a .out)
+      → Sends b (senderTransmits (senderSet w t) (w .file) st a .checked) (senderTransmits (senderSet w t) (w .file) st a .out)
   unfolding machine
   sends-good g0 = plain-sends (all-cons word-si all-nil)
   sends-good (g1 c) = plain-sends all-nil
@@ -119,20 +119,20 @@ module _ (w : World) (t : Settings) where
     pub brief : Brief (a .out)
 
   module _ (st : SenderState) (sr : Reader) (rs : ReceiverState) (rr : Reader) (v : Option Saved) (br bs : List ℕ) where
-    pub wire-leaves : {o : Bool} → WInv st sr rs rr v br bs o → Moved (senderLeaves (senderSet w t) (w .file) st (sr .checked)) sr rs rr v br bs o
+    pub wire-leaves : {o : Bool} → WInv st sr rs rr v br bs o → Moved (senderTransmits (senderSet w t) (w .file) st (sr .checked)) sr rs rr v br bs o
     wire-leaves (in-phase g e f) =
         in-phase (good-transmitS w t g) (encodes-sent _ _ e (sends-good g)) (remode _ (good-words g) f)
     wire-leaves (fading q x e) = fade _ sr (fading-leaves w t (sr .checked) q x) (quiet-leaves w t (sr .checked) q) e
     wire-leaves (over q) = over q
 
-    pub wire-times : {o : Bool} → WInv st sr rs rr v br bs o → Moved (senderTimes st (sr .checked)) sr rs rr v br bs false
+    pub wire-times : {o : Bool} → WInv st sr rs rr v br bs o → Moved (senderTimesOut st (sr .checked)) sr rs rr v br bs false
     wire-times (in-phase g e f) =
-        lift (senderTimes st (sr .checked)) sr (good-times w t g)
+        lift (senderTimesOut st (sr .checked)) sr (good-times w t g)
         (encodes-sent _ _ e (plain-sends (brief-words (brief-times w t st (sr .checked))))) (remode _ (good-words g) f)
     wire-times (fading q x e) = fade _ sr (fading-times w t (sr .checked) q x) (brief-times w t st (sr .checked)) e
     wire-times (over q) = over q
 
-    pub wire-stops : {o : Bool} → WInv st sr rs rr v br bs o → Moved (senderStops st (sr .checked)) sr rs rr v br bs false
+    pub wire-stops : {o : Bool} → WInv st sr rs rr v br bs o → Moved (senderCancels st (sr .checked)) sr rs rr v br bs false
     wire-stops (in-phase g e f) = fade _ sr (fading-stops w t st (sr .checked) (flight-of w t g)) (brief-stops w t st (sr .checked)) e
     wire-stops (fading q x e) = fade _ sr (fading-stops w t st (sr .checked) x) (brief-stops w t st (sr .checked)) e
     wire-stops (over q) = over q
@@ -162,10 +162,10 @@ module _ (w : World) (t : Settings) where
       rested : {a : ReceiverMove} {r : Reader} {b : List ℕ} → Rested w t area tally (rr .checked) a → Came st sr bs false area tally r b a
       rested y = record { inv = over (y .rest); stored = y .stored; brief = y .brief }
 
-      pub wire-timesR : Came st sr bs false area tally rr br (receiverTimes (now rs (rr .checked) v) area rs)
+      pub wire-timesR : Came st sr bs false area tally rr br (receiverTimesOut (now rs (rr .checked) v) area rs)
       wire-timesR = rested (rest-times w t area tally rs (rr .checked) v h)
 
-      pub wire-stopsR : Came st sr bs false area tally rr br (receiverStops (now rs (rr .checked) v) area rs)
+      pub wire-stopsR : Came st sr bs false area tally rr br (receiverCancels (now rs (rr .checked) v) area rs)
       wire-stopsR = rested (rest-stops w t area tally rs (rr .checked) v h)
 
       -- part of a packet

@@ -21,7 +21,7 @@ use Rattle.yapp.specs.declared.ReceiverState.{ReceiverState}
 use Rattle.yapp.specs.declared.ReceiverState.the-variants.{R, RH, RD, CW as RCW, Ended as REnded}
 use Rattle.yapp.specs.Rows
 use Rattle.yapp.specs.Rows.{Action, nothing, abort, refused, cancelled, success, leaves, answers, sendHeader, start, startChecked, resume, sendTrailer, ready, judge, second, store}
-use Rattle.yapp.specs.Steps.{SenderSettings, SenderMove, ReceiverSettings, ReceiverMove, sends, aborts, goes, fails, senderDoes, senderTakes, senderLeaves, senderTimes, senderStops, receiverDoes, receiverTimes, receiverStops}
+use Rattle.yapp.specs.Steps.{SenderSettings, SenderMove, ReceiverSettings, ReceiverMove, sends, aborts, goes, fails, senderDoes, senderTakes, senderTransmits, senderTimesOut, senderCancels, receiverDoes, receiverTimesOut, receiverCancels}
 use Rattle.transfers.specs.MachinesYapp.{receiverTakes}
 use Rattle.transfers.specs.World.{World, laidBy}
 use Rattle.transfers.specs.Yapp.{Settings}
@@ -133,7 +133,7 @@ module _ (w : World) (t : Settings) where
     rest-take b v c (waitsR {o = o}) h = rest-cw o b v (eqb (partsOf c .kind) CA) (eqb (partsOf c .kind) CN) (partsOf c) h
     rest-take b v c endedR h = at-rest endedR quiet refl h
 
-    pub rest-times : (st : ReceiverState) (b : Bool) (v : Option Saved) → Stored w v area tally → Rested b (receiverTimes (now st b v) area st)
+    pub rest-times : (st : ReceiverState) (b : Bool) (v : Option Saved) → Stored w v area tally → Rested b (receiverTimesOut (now st b v) area st)
     unfolding machine
     rest-times R b v h = fell R TimedOut h
     rest-times (RH x) b v h = fell (RH x) TimedOut h
@@ -141,7 +141,7 @@ module _ (w : World) (t : Settings) where
     rest-times (RCW o) b v h = at-rest endedR quiet refl h
     rest-times (REnded o) b v h = at-rest endedR quiet refl h
 
-    pub rest-stops : (st : ReceiverState) (b : Bool) (v : Option Saved) → Stored w v area tally → Rested b (receiverStops (now st b v) area st)
+    pub rest-stops : (st : ReceiverState) (b : Bool) (v : Option Saved) → Stored w v area tally → Rested b (receiverCancels (now st b v) area st)
     unfolding machine
     rest-stops R b v h = fell R Stopped h
     rest-stops (RH x) b v h = fell (RH x) Stopped h
@@ -262,7 +262,7 @@ module _ (w : World) (t : Settings) where
   unfolding senderTakes
   brief-takes st k c = brief-does st k _ (partsOf c)
 
-  pub brief-times : (st : SenderState) (k : Bool) → Brief (senderTimes st k .out)
+  pub brief-times : (st : SenderState) (k : Bool) → Brief (senderTimesOut st k .out)
   unfolding machine
   brief-times (S true n) k = go (ltb n 3)
     where
@@ -277,7 +277,7 @@ module _ (w : World) (t : Settings) where
   brief-times (CW o) k = quiet
   brief-times (Ended o) k = quiet
 
-  pub brief-stops : (st : SenderState) (k : Bool) → Brief (senderStops st k .out)
+  pub brief-stops : (st : SenderState) (k : Bool) → Brief (senderCancels st k .out)
   unfolding machine
   brief-stops (S b n) k = one word-cn
   brief-stops SH k = one word-cn
@@ -310,20 +310,20 @@ module _ (w : World) (t : Settings) where
   fading-takes k c endedS f = record { rest = endedS; flight = f }
 
   pub fading-leaves : {st : SenderState} (k : Bool) {rs : ReceiverState} {v : Option Saved} {lr : List Content} → RestS st → Flight w t rs v lr
-      → Fading (senderLeaves (senderSet w t) (w .file) st k) rs v lr
+      → Fading (senderTransmits (senderSet w t) (w .file) st k) rs v lr
   unfolding machine
   fading-leaves k waitsS f = record { rest = waitsS; flight = f }
   fading-leaves k endedS f = record { rest = endedS; flight = f }
 
   pub fading-times : {st : SenderState} (k : Bool) {rs : ReceiverState} {v : Option Saved} {lr : List Content} → RestS st → Flight w t rs v lr
-      → Fading (senderTimes st k) rs v lr
+      → Fading (senderTimesOut st k) rs v lr
   unfolding machine
   fading-times k waitsS f = record { rest = endedS; flight = f }
   fading-times k endedS f = record { rest = endedS; flight = f }
 
   -- a stop, in any state
   pub fading-stops : (st : SenderState) (k : Bool) {rs : ReceiverState} {v : Option Saved} {lr : List Content} → Flight w t rs v lr
-      → Fading (senderStops st k) rs v lr
+      → Fading (senderCancels st k) rs v lr
   unfolding machine
   fading-stops (S x n) k f = record { rest = waitsS; flight = flight-append (stop silent) f }
   fading-stops SH k f = record { rest = waitsS; flight = flight-append (stop silent) f }
@@ -333,7 +333,7 @@ module _ (w : World) (t : Settings) where
   fading-stops (CW o) k f = record { rest = waitsS; flight = f }
   fading-stops (Ended o) k f = record { rest = endedS; flight = f }
 
-  pub quiet-leaves : {st : SenderState} (k : Bool) → RestS st → Brief (senderLeaves (senderSet w t) (w .file) st k .out)
+  pub quiet-leaves : {st : SenderState} (k : Bool) → RestS st → Brief (senderTransmits (senderSet w t) (w .file) st k .out)
   unfolding machine
   quiet-leaves k waitsS = quiet
   quiet-leaves k endedS = quiet
@@ -346,7 +346,7 @@ module _ (w : World) (t : Settings) where
   timeout-S n false g f = fades waitsS (flight-append (stop silent) f)
 
   pub good-times : {st : SenderState} {a : Bool} {rs : ReceiverState} {b : Bool} {v : Option Saved} {lr ls : List Content} → Good w t st a rs b v lr ls
-      → sentOn (senderTimes st a) rs b v lr ls
+      → sentOn (senderTimesOut st a) rs b v lr ls
   unfolding machine
   good-times g0 = good g0
   good-times (g1 {n = n} c) = timeout-S n (ltb n 3) (g1 (calling-none (calling-append (si ∷ []) c))) (early silent (calling-none c))

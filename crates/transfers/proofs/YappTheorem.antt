@@ -32,7 +32,7 @@ use Rattle.yapp.specs.declared.ReceiverState.{ReceiverState}
 use Rattle.yapp.specs.declared.ReceiverState.the-variants.{R, Ended as REnded}
 use Rattle.yapp_sender.specs.declared.Sender.{Sender}
 use Rattle.yapp_receiver.specs.declared.Receiver.{Receiver}
-use Rattle.yapp.specs.Steps.{SenderSettings, SenderMove, ReceiverMove, writes, sends, senderLeaves, senderTimes, senderStops, receiverTimes, receiverStops, senderEnded, receiverEnded}
+use Rattle.yapp.specs.Steps.{SenderSettings, SenderMove, ReceiverMove, writes, sends, senderTransmits, senderTimesOut, senderCancels, receiverTimesOut, receiverCancels, senderEnded, receiverEnded}
 use Rattle.yapp_core.specs.Core.{nowhere, heard, shownIn}
 use Rattle.yapp_sender.specs.Sender.{SenderAfter, settingsOf, replied, arrived, refusedCall, statusOf, unlessRefused, begin, begunSender, transmit, receive, timeout, cancel}
 use Rattle.calls.specs.Saving.{formBy}
@@ -157,22 +157,22 @@ module _ (w : World) (t : Settings) where
     abbrev leavesS : List ℕ → Option (List ℕ) → Option (List ℕ) → SenderAfter
     leavesS reply l x =
         replied (c .snd) (c .snd .reader) 0 nowhere
-        (senderLeaves (settingsOf (c .snd)) (lentOr (w .file) l) (c .snd .core .state) (c .snd .reader .checked)) reply
+        (senderTransmits (settingsOf (c .snd)) (lentOr (w .file) l) (c .snd .core .state) (c .snd .reader .checked)) reply
 
     abbrev timesS : List ℕ → Option (List ℕ) → Option (List ℕ) → SenderAfter
-    timesS reply l x = replied (c .snd) (c .snd .reader) 0 nowhere (senderTimes (c .snd .core .state) (c .snd .reader .checked)) reply
+    timesS reply l x = replied (c .snd) (c .snd .reader) 0 nowhere (senderTimesOut (c .snd .core .state) (c .snd .reader .checked)) reply
 
     abbrev stopsS : List ℕ → Option (List ℕ) → Option (List ℕ) → SenderAfter
-    stopsS reply l x = replied (c .snd) (c .snd .reader) 0 nowhere (senderStops (c .snd .core .state) (c .snd .reader .checked)) reply
+    stopsS reply l x = replied (c .snd) (c .snd .reader) 0 nowhere (senderCancels (c .snd .core .state) (c .snd .reader .checked)) reply
 
     abbrev hearsS : ℕ → List ℕ → Option (List ℕ) → Option (List ℕ) → SenderAfter
     hearsS n reply l x = arrived (c .snd) (reads (c .snd .reader) (lentOr (take n (c .toS)) x)) reply
 
     abbrev timesR : List ℕ → Option (List ℕ) → Option (List ℕ) → ReceiverAfter
-    timesR reply l x = repliedR (c .rcv) (c .rcv .reader) 0 (receiverTimes (nowOf (c .rcv)) (lentOr (c .area) l) (c .rcv .core .state)) reply
+    timesR reply l x = repliedR (c .rcv) (c .rcv .reader) 0 (receiverTimesOut (nowOf (c .rcv)) (lentOr (c .area) l) (c .rcv .core .state)) reply
 
     abbrev stopsR : List ℕ → Option (List ℕ) → Option (List ℕ) → ReceiverAfter
-    stopsR reply l x = repliedR (c .rcv) (c .rcv .reader) 0 (receiverStops (nowOf (c .rcv)) (lentOr (c .area) l) (c .rcv .core .state)) reply
+    stopsR reply l x = repliedR (c .rcv) (c .rcv .reader) 0 (receiverCancels (nowOf (c .rcv)) (lentOr (c .area) l) (c .rcv .core .state)) reply
 
     abbrev arrivesR : Received → List ℕ → Option (List ℕ) → ReceiverAfter
     arrivesR g reply l =
@@ -331,7 +331,7 @@ module _ (w : World) (t : Settings) where
 
   -- what a leave would send
   abbrev leaving : SenderState → Bool → List ℕ
-  leaving st a = writes (senderLeaves (senderSet w t) (w .file) st a .checked) (senderLeaves (senderSet w t) (w .file) st a .out)
+  leaving st a = writes (senderTransmits (senderSet w t) (w .file) st a .checked) (senderTransmits (senderSet w t) (w .file) st a .out)
 
   last : {st : SenderState} {a : Bool} {rs : ReceiverState} {b : Bool} {v : Option Saved} {lr ls : List Content} → Good w t st a rs b v lr ls
       → (senderEnded st ≡ true) ⊎ (ls ≡ []) → (receiverEnded rs ≡ true) ⊎ (lr ≡ [])

@@ -102,37 +102,37 @@ sendsBlock s file n k =
     (sends SE k (ef ∷ []))
 
 -- leave: the first in S gives SI, a later one nothing; outside S and SD it changes nothing
-unfoldable pub senderLeaves : SenderSettings → List ℕ → SenderState → Bool → SenderMove
-senderLeaves s file (S false n) k = sends (S true n) k (si ∷ [])
-senderLeaves s file (SD n) k = sendsBlock s file n k
-senderLeaves s file (S true n) k = sends (S true n) k []
-senderLeaves s file SH k = sends SH k []
-senderLeaves s file SE k = sends SE k []
-senderLeaves s file ST k = sends ST k []
-senderLeaves s file (CW o) k = sends (CW o) k []
-senderLeaves s file (Ended o) k = sends (Ended o) k []
+unfoldable pub senderTransmits : SenderSettings → List ℕ → SenderState → Bool → SenderMove
+senderTransmits s file (S false n) k = sends (S true n) k (si ∷ [])
+senderTransmits s file (SD n) k = sendsBlock s file n k
+senderTransmits s file (S true n) k = sends (S true n) k []
+senderTransmits s file SH k = sends SH k []
+senderTransmits s file SE k = sends SE k []
+senderTransmits s file ST k = sends ST k []
+senderTransmits s file (CW o) k = sends (CW o) k []
+senderTransmits s file (Ended o) k = sends (Ended o) k []
 
 -- timer: before the first leave it changes nothing; the first three after it repeat SI, the fourth aborts; in SD it changes nothing,
 -- in ST it ends as success, in CW it ends
-unfoldable pub senderTimes : SenderState → Bool → SenderMove
-senderTimes (S false n) k = sends (S false n) k []
-senderTimes (S true n) k = pick (ltb n 3) (sends (S true (n + 1)) k (si ∷ [])) (aborts TimedOut k)
-senderTimes (SD n) k = sends (SD n) k []
-senderTimes ST k = sends (Ended Success) k []
-senderTimes (CW o) k = sends (Ended o) k []
-senderTimes (Ended o) k = sends (Ended o) k []
-senderTimes SH k = aborts TimedOut k
-senderTimes SE k = aborts TimedOut k
+unfoldable pub senderTimesOut : SenderState → Bool → SenderMove
+senderTimesOut (S false n) k = sends (S false n) k []
+senderTimesOut (S true n) k = pick (ltb n 3) (sends (S true (n + 1)) k (si ∷ [])) (aborts TimedOut k)
+senderTimesOut (SD n) k = sends (SD n) k []
+senderTimesOut ST k = sends (Ended Success) k []
+senderTimesOut (CW o) k = sends (Ended o) k []
+senderTimesOut (Ended o) k = sends (Ended o) k []
+senderTimesOut SH k = aborts TimedOut k
+senderTimesOut SE k = aborts TimedOut k
 
 -- the operator's stop aborts; in CW it changes nothing
-unfoldable pub senderStops : SenderState → Bool → SenderMove
-senderStops (CW o) k = sends (CW o) k []
-senderStops (Ended o) k = sends (Ended o) k []
-senderStops (S begun timeouts) k = aborts Stopped k
-senderStops SH k = aborts Stopped k
-senderStops (SD n) k = aborts Stopped k
-senderStops SE k = aborts Stopped k
-senderStops ST k = aborts Stopped k
+unfoldable pub senderCancels : SenderState → Bool → SenderMove
+senderCancels (CW o) k = sends (CW o) k []
+senderCancels (Ended o) k = sends (Ended o) k []
+senderCancels (S begun timeouts) k = aborts Stopped k
+senderCancels SH k = aborts Stopped k
+senderCancels (SD n) k = aborts Stopped k
+senderCancels SE k = aborts Stopped k
+senderCancels ST k = aborts Stopped k
 
 abbrev pub senderEnded : SenderState → Bool
 senderEnded (S begun timeouts) = false
@@ -255,20 +255,20 @@ unfoldable pub receiverTakes : ReceiverSettings → ReceiverNow → List ℕ →
 receiverTakes t r a c = receiverDoes t r a (receiverRow (r .state) (partsOf c .kind)) (partsOf c)
 
 -- timer: aborts (17); in CW it ends
-unfoldable pub receiverTimes : ReceiverNow → List ℕ → ReceiverState → ReceiverMove
-receiverTimes r a (RCW o) = goes r a (REnded o) []
-receiverTimes r a (REnded o) = goes r a (REnded o) []
-receiverTimes r a R = fails r a TimedOut
-receiverTimes r a (RH whole) = fails r a TimedOut
-receiverTimes r a RD = fails r a TimedOut
+unfoldable pub receiverTimesOut : ReceiverNow → List ℕ → ReceiverState → ReceiverMove
+receiverTimesOut r a (RCW o) = goes r a (REnded o) []
+receiverTimesOut r a (REnded o) = goes r a (REnded o) []
+receiverTimesOut r a R = fails r a TimedOut
+receiverTimesOut r a (RH whole) = fails r a TimedOut
+receiverTimesOut r a RD = fails r a TimedOut
 
 -- the operator's stop aborts (23); in CW it changes nothing
-unfoldable pub receiverStops : ReceiverNow → List ℕ → ReceiverState → ReceiverMove
-receiverStops r a (RCW o) = goes r a (RCW o) []
-receiverStops r a (REnded o) = goes r a (REnded o) []
-receiverStops r a R = fails r a Stopped
-receiverStops r a (RH whole) = fails r a Stopped
-receiverStops r a RD = fails r a Stopped
+unfoldable pub receiverCancels : ReceiverNow → List ℕ → ReceiverState → ReceiverMove
+receiverCancels r a (RCW o) = goes r a (RCW o) []
+receiverCancels r a (REnded o) = goes r a (REnded o) []
+receiverCancels r a R = fails r a Stopped
+receiverCancels r a (RH whole) = fails r a Stopped
+receiverCancels r a RD = fails r a Stopped
 
 abbrev pub receiverEnded : ReceiverState → Bool
 receiverEnded R = false

@@ -17,29 +17,27 @@ use Rattle.yapp_core.specs.declared.SenderCore.{SenderCore}
 use Rattle.yapp_core.specs.Core.{settingsBy, nowhere, heard, shownIn}
 use Rattle.yapp_sending.specs.declared.Event.{Event}
 use Rattle.yapp_sending.specs.declared.Step.{Step}
-use Rattle.yapp_sending.specs.Sending.{moveOf, happensBy}
+use Rattle.yapp_sending.specs.Sending.{moveOf, happensBy, countedBy}
+use Rattle.yapp_sending.proofs.Blocks.{counted-is}
 use Rattle.yapp_answering.specs.Calls.{Left, leftAs, leftBy, refusedAs, refusedLeft, statusOf, arrives, receives, settles}
-
--- the code read g, made of it the place p and the move w, and left x
-pub arrives-is : (c : SenderCore) (k checked : Bool) (g h : Received) (name reply : List ℕ) (p : Place) (w : SenderMove) (x : Left)
-    → k ≡ checked
-    → g ≡ h
-    → p ≡ shownIn (c .state) (heard g) g
-    → w ≡ senderTakes (settingsBy c name) (c .state) k (heard g)
-    → leftBy c (g .reader) (g .taken) p w reply ≡ x
-    → arrives c checked h name reply ≡ x
-arrives-is c k checked g h name reply p w x e f q v z =
-    ap (λ (y : Received). arrives c checked y name reply) (sym f)
-    ∙ ap (λ (y : Bool). arrives c y g name reply) (sym e)
-    ∙ rw (← q, ← v) z
 
 -- ---- whether a call is taken
 
 module _ (c : SenderCore) (r : Reader) (name file reply : List ℕ) where
-  pub receive-taken : (chunk : List ℕ) → isTaken (statusOf c file reply) ≡ true
-      → receives c r name chunk file reply ≡ arrives c (r .checked) (reads r chunk) name reply
+  -- the code read g in the mode k, made of it the place p and the move w, and left x
+  pub receive-taken : (chunk : List ℕ) (k : Bool) (g : Received) (p : Place) (w : SenderMove) (x : Left) → isTaken (statusOf c file reply) ≡ true
+      → k ≡ r .checked
+      → g ≡ reads r chunk
+      → p ≡ shownIn (c .state) (heard g) g
+      → w ≡ senderTakes (settingsBy c name) (c .state) k (heard g)
+      → leftBy c (g .reader) (g .taken) p w reply ≡ x
+      → receives c r name chunk file reply ≡ x
   unfolding receives
-  receive-taken chunk h = unless-taken (refusedLeft c r reply) (arrives c (r .checked) (reads r chunk) name reply) (statusOf c file reply) h
+  receive-taken chunk k g p w x h e f q v z =
+      unless-taken (refusedLeft c r reply) (arrives c (r .checked) (reads r chunk) name reply) (statusOf c file reply) h
+      ∙ ap (λ (y : Received). arrives c (r .checked) y name reply) (sym f)
+      ∙ ap (λ (y : Bool). arrives c y g name reply) (sym e)
+      ∙ rw (← q, ← v) z
 
   pub receive-refused : (chunk : List ℕ) → isTaken (statusOf c file reply) ≡ false
       → receives c r name chunk file reply ≡ leftAs (refusedAs c r (statusOf c file reply)) reply
@@ -49,7 +47,7 @@ module _ (c : SenderCore) (r : Reader) (name file reply : List ℕ) where
   -- the code decided the step s in the mode k; the file is within the numbers that a state counts in
   pub settle-taken : (e : Event) (k : Bool) (s : Step) (x : Left) → isTaken (statusOf c file reply) ≡ true → c .size ≤ 4294967295
       → k ≡ r .checked
-      → (length file ≤ 4294967295 → moveOf (settingsBy c name) file s ≡ happensBy (settingsBy c name) file e (c .state) k)
+      → moveOf (settingsBy c name) file s ≡ countedBy (settingsBy c name) file e (c .state) k
       → leftBy c r 0 nowhere (moveOf (settingsBy c name) file s) reply ≡ x
       → settles e c r name file reply ≡ x
   unfolding settles
@@ -57,7 +55,7 @@ module _ (c : SenderCore) (r : Reader) (name file reply : List ℕ) where
       let l = taken-room (senderEnded (c .state)) (length reply) 0 (length file) (c .size) h .2 in
       unless-taken (refusedLeft c r reply) (leftBy c r 0 nowhere (happensBy (settingsBy c name) file e (c .state) (r .checked)) reply) (statusOf c file reply) h
       ∙ ap (λ (y : Bool). leftBy c r 0 nowhere (happensBy (settingsBy c name) file e (c .state) y) reply) (sym q)
-      ∙ ap (λ (y : SenderMove). leftBy c r 0 nowhere y reply) (sym (f (omega arith)))
+      ∙ ap (λ (y : SenderMove). leftBy c r 0 nowhere y reply) (sym (f ∙ counted-is (settingsBy c name) file e (c .state) k (omega arith)))
       ∙ z
 
   pub settle-refused : (e : Event) → isTaken (statusOf c file reply) ≡ false

@@ -9,12 +9,11 @@ use yapp_sending::Step;
 ghost use mathlib.Core.Path.{_≡_};
 ghost use Prim.Native.Nat.{_≤_};
 ghost use lib.ListN.{length};
-ghost use Rattle.reader.specs.Reader.{receive as reads};
 ghost use Rattle.calls.specs.Checks.{checkOf};
 ghost use Rattle.yapp.specs.Steps.{senderEnded};
 ghost use Rattle.yapp_core.specs.Core.{settingsBy};
 ghost use Rattle.yapp_sending.specs.Sending.{moveOf};
-ghost use Rattle.yapp_answering.specs.Calls.{coreAt, refusedAs, leftAs, leftBy, arrives, receives, settles};
+ghost use Rattle.yapp_answering.specs.Calls.{coreAt, refusedAs, leftAs, leftBy, receives, settles};
 
 // What a call answers, but for the bytes of the file's name.
 pub struct Answer {
@@ -103,25 +102,6 @@ fn finish(
     }
 }
 
-// A call that is taken: reads the chunk, decides, and acts.
-fn arrive(
-    core: SenderCore,
-    reader: Reader,
-    name: [u8; 64],
-    chunk: &[u8],
-    file: &[u8],
-    reply: &mut [u8],
-) -> Answer
-    requires { ⌜ 259 ≤ length (now reply) ⌝ }
-    ensures { λ r. ⌜ arrives core (reader .checked) (reads reader (now (chunk .entry))) name (now (reply .entry)) ≡ leftAs r (now (reply .exit)) ⌝ }
-{
-    let got = reader.receive(chunk);
-    let step = yapp_taking::takes(core, reader.checked(), got);
-    let shown = yapp_core::shown_in(core, got);
-    let found = got.reader;
-    finish(core, found, got.taken, shown, step, name, file, reply)
-}
-
 // Bytes have arrived.
 pub fn receive(
     core: SenderCore,
@@ -135,7 +115,11 @@ pub fn receive(
 {
     let status = check(core, file.len(), reply.len());
     if calls::is_taken(status) {
-        return arrive(core, reader, name, chunk, file, reply);
+        let got = reader.receive(chunk);
+        let step = yapp_taking::takes(core, reader.checked(), got);
+        let shown = yapp_core::shown_in(core, got);
+        let found = got.reader;
+        return finish(core, found, got.taken, shown, step, name, file, reply);
     }
     refuse(core, reader, status)
 }

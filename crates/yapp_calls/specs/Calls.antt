@@ -15,12 +15,12 @@ use Rattle.calls.specs.declared.Status.the-variants.{Taken}
 use Rattle.calls.specs.Checks.{checkOf, unless}
 use Rattle.calls.specs.Saving.{keepingOf, nameOf}
 use Rattle.yapp.specs.declared.ReceiverState.{ReceiverState}
-use Rattle.yapp.specs.Steps.{writes, ReceiverNow, ReceiverMove, receiverTakes, receiverTimes, receiverStops, receiverEnded}
+use Rattle.yapp.specs.Steps.{writes, ReceiverNow, ReceiverMove, receiverTakes, receiverTimesOut, receiverCancels, receiverEnded}
 use Rattle.yapp_steps.specs.declared.ReceiverCore.{ReceiverCore}
 use Rattle.yapp_steps.specs.declared.Step.{Step}
 use Rattle.yapp_steps.specs.Receiving.{contentsOf, settingsIn, settingsBy, currentIn, nowBy}
 use Rattle.yapp_calls.specs.declared.Event.{Event}
-use Rattle.yapp_calls.specs.declared.Event.the-variants.{Timer, Stop}
+use Rattle.yapp_calls.specs.declared.Event.the-variants.{Timeout, Cancel}
 use Rattle.yapp_calls.specs.declared.Answer.{Answer}
 
 -- what a call leaves: its answer, and every byte of area and reply buffer
@@ -74,8 +74,8 @@ receives c r name chunk area reply =
     unless (statusOf c area reply) (refusedLeft c r name area reply) (arrives c (r .checked) (reads r chunk) name area reply)
 
 abbrev pub moveBy : Event → ReceiverNow → List ℕ → ReceiverState → ReceiverMove
-moveBy Timer n area st = receiverTimes n area st
-moveBy Stop n area st = receiverStops n area st
+moveBy Timeout n area st = receiverTimesOut n area st
+moveBy Cancel n area st = receiverCancels n area st
 
 -- timer or operator's stop
 unfoldable pub settles : Event → ReceiverCore → Reader → List ℕ → List ℕ → List ℕ → Left

@@ -12,8 +12,8 @@ ghost use Rattle.yapp_calls.specs.Calls.{coreAt, refusedAs, moveBy, answ
 
 // An event with which no bytes come.
 pub enum Event {
-    Timer,
-    Stop,
+    Timeout,
+    Cancel,
 }
 
 // What a call answers.
@@ -117,8 +117,8 @@ fn step_of(event: Event, core: ReceiverCore, checked: bool, name: &[u8]) -> Step
     ensures { λ r. ⌜ ((a p : List ℕ) → reached (now (name .entry)) (moveBy event (nowBy (currentIn core checked) (now (name .entry))) a (core .state)) ≡ reachedBy p (now (name .entry)) r a) ⌝ }
 {
     match event {
-        Event::Timer => yapp_receiving::time_out(core, checked, name),
-        Event::Stop => yapp_receiving::stop(core, checked, name),
+        Event::Timeout => yapp_receiving::timeout(core, checked, name),
+        Event::Cancel => yapp_receiving::cancel(core, checked, name),
     }
 }
 

@@ -16,10 +16,10 @@ use Rattle.calls.specs.declared.Status.{Status}
 use Rattle.calls.specs.Checks.{unless}
 use Rattle.calls.specs.Saving.{isWithin}
 use Rattle.calls.proofs.Laws.{unless-ap}
-use Rattle.yapp.specs.Steps.{ReceiverMove, receiverTakes, receiverTimes, receiverStops}
+use Rattle.yapp.specs.Steps.{ReceiverMove, receiverTakes, receiverTimesOut, receiverCancels}
 use Rattle.yapp_checks.specs.declared.Begun.{Begun}
 use Rattle.yapp_checks.specs.Begun.{begunWith, begunBy}
-use Rattle.yapp_calls.specs.declared.Event.the-variants.{Timer, Stop}
+use Rattle.yapp_calls.specs.declared.Event.the-variants.{Timeout, Cancel}
 use Rattle.yapp_calls.specs.Calls.{leftBy, refusedLeft, receives, settles}
 use Rattle.yapp_receiver.specs.declared.Receiver.{Receiver}
 use Rattle.yapp_receiver.specs.Receiver.{unlessRefused, statusOf, replied, settingsOf, nowOf, withSaved, resumeBy, resume, receive, timeout, cancel}
@@ -39,13 +39,13 @@ module _ (m : Receiver) (area reply : List ℕ) where
       let g = reads (m .reader) chunk in
       answered-is (g .reader) (g .taken) (receiverTakes (settingsOf m) (nowOf m) area (contentOf (g .reader .pending) (g .packet))) (statusOf m area reply)
 
-  pub timeout-is : timeout m area reply ≡ afterBy (settles Timer (m .core) (m .reader) (m .name) area reply)
+  pub timeout-is : timeout m area reply ≡ afterBy (settles Timeout (m .core) (m .reader) (m .name) area reply)
   unfolding timeout settles
-  timeout-is = answered-is (m .reader) 0 (receiverTimes (nowOf m) area (m .core .state)) (statusOf m area reply)
+  timeout-is = answered-is (m .reader) 0 (receiverTimesOut (nowOf m) area (m .core .state)) (statusOf m area reply)
 
-  pub cancel-is : cancel m area reply ≡ afterBy (settles Stop (m .core) (m .reader) (m .name) area reply)
+  pub cancel-is : cancel m area reply ≡ afterBy (settles Cancel (m .core) (m .reader) (m .name) area reply)
   unfolding cancel settles
-  cancel-is = answered-is (m .reader) 0 (receiverStops (nowOf m) area (m .core .state)) (statusOf m area reply)
+  cancel-is = answered-is (m .reader) 0 (receiverCancels (nowOf m) area (m .core .state)) (statusOf m area reply)
 
 -- ---- the beginnings
 

@@ -27,7 +27,7 @@ use Rattle.yapp.specs.declared.ReceiverState.{ReceiverState}
 use Rattle.yapp.specs.declared.ReceiverState.the-variants.{R, Ended}
 use Rattle.yapp_receiver.specs.declared.Receiver.{Receiver}
 use Rattle.yapp_receiver.specs.declared.ReceiverAnswer.{ReceiverAnswer}
-use Rattle.yapp.specs.Steps.{writes, ReceiverSettings, ReceiverNow, ReceiverMove, goes, receiverTakes, receiverTimes, receiverStops, receiverEnded}
+use Rattle.yapp.specs.Steps.{writes, ReceiverSettings, ReceiverNow, ReceiverMove, goes, receiverTakes, receiverTimesOut, receiverCancels, receiverEnded}
 
 -- ---- the beginnings
 
@@ -126,13 +126,13 @@ receive m chunk area reply =
 unfoldable pub timeout : Receiver → List ℕ → List ℕ → ReceiverAfter
 timeout m area reply =
     unlessRefused (statusOf m area reply) m area reply
-    (replied m (m .reader) 0 (receiverTimes (nowOf m) area (m .core .state)) reply)
+    (replied m (m .reader) 0 (receiverTimesOut (nowOf m) area (m .core .state)) reply)
 
 -- the operator's stop
 unfoldable pub cancel : Receiver → List ℕ → List ℕ → ReceiverAfter
 cancel m area reply =
     unlessRefused (statusOf m area reply) m area reply
-    (replied m (m .reader) 0 (receiverStops (nowOf m) area (m .core .state)) reply)
+    (replied m (m .reader) 0 (receiverCancels (nowOf m) area (m .core .state)) reply)
 
 -- ---- the record
 

@@ -69,7 +69,7 @@ impl Receiver {
         }
     }
 
-    // A receiver with the record that these bytes are; one that is unreadable is 1.
+    // A receiver with the record that these bytes are; unreadable ones are 1, a record out of its limits is 2.
     pub fn resume(bytes: &[u8], room: usize, resumes: bool, checks: bool) -> Self
         ensures { λ r. ⌜ r ≡ resumeOf (now (bytes .entry)) room resumes checks ⌝ }
     {
@@ -110,7 +110,7 @@ impl Receiver {
         ensures { λ r. ⌜ timeoutOf self (now (area .entry)) (now (reply .entry)) ≡ record { answer = r; area = now (area .entry); reply = now (reply .exit) } ⌝ }
     {
         let name = self.name;
-        answered(yapp_calls::settle(Event::Timer, self.core, self.reader, name, area, reply))
+        answered(yapp_calls::settle(Event::Timeout, self.core, self.reader, name, area, reply))
     }
 
     // The operator's stop.
@@ -118,7 +118,7 @@ impl Receiver {
         ensures { λ r. ⌜ cancelOf self (now (area .entry)) (now (reply .entry)) ≡ record { answer = r; area = now (area .entry); reply = now (reply .exit) } ⌝ }
     {
         let name = self.name;
-        answered(yapp_calls::settle(Event::Stop, self.core, self.reader, name, area, reply))
+        answered(yapp_calls::settle(Event::Cancel, self.core, self.reader, name, area, reply))
     }
 
     // Writes the record's bytes, where there is a record.

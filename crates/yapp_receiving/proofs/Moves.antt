@@ -18,7 +18,7 @@ use Rattle.yapp.specs.declared.ReceiverState.{ReceiverState}
 use Rattle.yapp.specs.declared.ReceiverState.the-variants.{R, RH, RD, CW, Ended}
 use Rattle.yapp.specs.Rows.{Action, nothing, abort, refused, cancelled, success, leaves, answers, sendHeader, start, startChecked, resume, sendTrailer, ready, trailer, judge, second, store, eof, receiverRow}
 use Rattle.yapp.specs.Table.{actionNumber}
-use Rattle.yapp.specs.Steps.{ReceiverSettings, ReceiverNow, goes, leftCW, judgesParts, stores, endsFile, receiverDoes, receiverTakes, receiverTimes, receiverStops}
+use Rattle.yapp.specs.Steps.{ReceiverSettings, ReceiverNow, goes, leftCW, judgesParts, stores, endsFile, receiverDoes, receiverTakes, receiverTimesOut, receiverCancels}
 use Rattle.yapp.proofs.Actions.{action-same}
 use Rattle.yapp_steps.specs.declared.Settings.{Settings}
 use Rattle.yapp_steps.specs.declared.Current.{Current}
@@ -37,16 +37,16 @@ module _ (c : Current) (name a p : List ℕ) where
   N = nowBy c name
 
   -- the timer
-  pub times-open : (st : ReceiverState) → isOpen st ≡ true → reached name (receiverTimes N a st) ≡ reachedBy p name (failsBy c name TimedOut) a
-  unfolding receiverTimes
+  pub times-open : (st : ReceiverState) → isOpen st ≡ true → reached name (receiverTimesOut N a st) ≡ reachedBy p name (failsBy c name TimedOut) a
+  unfolding receiverTimesOut
   times-open R h = goes-is c name a p (CW TimedOut) CN
   times-open (RH whole) h = goes-is c name a p (CW TimedOut) CN
   times-open RD h = goes-is c name a p (CW TimedOut) CN
   times-open (CW o) h = never h
   times-open (Ended o) h = never h
 
-  pub times-rest : (st : ReceiverState) → isOpen st ≡ false → reached name (receiverTimes N a st) ≡ reachedBy p name (stays c name (leftCW st) Silent) a
-  unfolding receiverTimes
+  pub times-rest : (st : ReceiverState) → isOpen st ≡ false → reached name (receiverTimesOut N a st) ≡ reachedBy p name (stays c name (leftCW st) Silent) a
+  unfolding receiverTimesOut
   times-rest R h = never (sym h)
   times-rest (RH whole) h = never (sym h)
   times-rest RD h = never (sym h)
@@ -54,16 +54,16 @@ module _ (c : Current) (name a p : List ℕ) where
   times-rest (Ended o) h = goes-is c name a p (Ended o) Silent
 
   -- the operator's stop
-  pub stops-open : (st : ReceiverState) → isOpen st ≡ true → reached name (receiverStops N a st) ≡ reachedBy p name (failsBy c name Stopped) a
-  unfolding receiverStops
+  pub stops-open : (st : ReceiverState) → isOpen st ≡ true → reached name (receiverCancels N a st) ≡ reachedBy p name (failsBy c name Stopped) a
+  unfolding receiverCancels
   stops-open R h = goes-is c name a p (CW Stopped) CN
   stops-open (RH whole) h = goes-is c name a p (CW Stopped) CN
   stops-open RD h = goes-is c name a p (CW Stopped) CN
   stops-open (CW o) h = never h
   stops-open (Ended o) h = never h
 
-  pub stops-rest : (st : ReceiverState) → isOpen st ≡ false → reached name (receiverStops N a st) ≡ reachedBy p name (stays c name st Silent) a
-  unfolding receiverStops
+  pub stops-rest : (st : ReceiverState) → isOpen st ≡ false → reached name (receiverCancels N a st) ≡ reachedBy p name (stays c name st Silent) a
+  unfolding receiverCancels
   stops-rest R h = never (sym h)
   stops-rest (RH whole) h = never (sym h)
   stops-rest RD h = never (sym h)

@@ -12,7 +12,7 @@ ghost use mathlib.Core.Path.{_≡_};
 ghost use mathlib.Core.List.{List};
 ghost use Prim.Native.Nat.{ℕ};
 ghost use Rattle.packets.specs.Content.{contentOf};
-ghost use Rattle.yapp.specs.Steps.{leftCW, receiverTakes, receiverTimes, receiverStops};
+ghost use Rattle.yapp.specs.Steps.{leftCW, receiverTakes, receiverTimesOut, receiverCancels};
 ghost use Rattle.yapp_steps.specs.Receiving.{settingsIn, currentIn, settingsBy, nowBy, reached, reachedBy};
 ghost use Rattle.yapp_receiving.specs.Receiving.{stateBy, outBy, isOpen};
 
@@ -126,8 +126,8 @@ fn is_open(state: ReceiverState) -> bool
 }
 
 // The timer has run out.
-pub fn time_out(core: ReceiverCore, checked: bool, name: &[u8]) -> Step
-    ensures { λ r. ⌜ ((a p : List ℕ) → reached (now (name .entry)) (receiverTimes (nowBy (currentIn core checked) (now (name .entry))) a (core .state)) ≡ reachedBy p (now (name .entry)) r a) ⌝ }
+pub fn timeout(core: ReceiverCore, checked: bool, name: &[u8]) -> Step
+    ensures { λ r. ⌜ ((a p : List ℕ) → reached (now (name .entry)) (receiverTimesOut (nowBy (currentIn core checked) (now (name .entry))) a (core .state)) ≡ reachedBy p (now (name .entry)) r a) ⌝ }
 {
     let state = core.state;
     let current = current_of(core, checked);
@@ -138,8 +138,8 @@ pub fn time_out(core: ReceiverCore, checked: bool, name: &[u8]) -> Step
 }
 
 // The operator's stop.
-pub fn stop(core: ReceiverCore, checked: bool, name: &[u8]) -> Step
-    ensures { λ r. ⌜ ((a p : List ℕ) → reached (now (name .entry)) (receiverStops (nowBy (currentIn core checked) (now (name .entry))) a (core .state)) ≡ reachedBy p (now (name .entry)) r a) ⌝ }
+pub fn cancel(core: ReceiverCore, checked: bool, name: &[u8]) -> Step
+    ensures { λ r. ⌜ ((a p : List ℕ) → reached (now (name .entry)) (receiverCancels (nowBy (currentIn core checked) (now (name .entry))) a (core .state)) ≡ reachedBy p (now (name .entry)) r a) ⌝ }
 {
     let state = core.state;
     let current = current_of(core, checked);

@@ -13,7 +13,7 @@ use Rattle.calls.specs.declared.Outcome.{Outcome}
 use Rattle.calls.specs.declared.Status.{Status}
 use Rattle.calls.specs.declared.Status.the-variants.{Taken}
 use Rattle.calls.specs.Checks.{checkOf, unless}
-use Rattle.yapp.specs.Steps.{writes, SenderSettings, SenderMove, senderTakes, senderLeaves, senderTimes, senderStops, senderEnded}
+use Rattle.yapp.specs.Steps.{writes, SenderSettings, SenderMove, senderTakes, senderTransmits, senderTimesOut, senderCancels, senderEnded}
 use Rattle.yapp_core.specs.Core.{refusedCore, begunCore, begunWithin, settingsBy, nowhere, heard, shownIn}
 use Rattle.yapp_sender.specs.declared.Sender.{Sender}
 use Rattle.yapp_sender.specs.declared.SenderAnswer.{SenderAnswer}
@@ -85,7 +85,7 @@ unlessRefused s m reply after = unless s (λ (x : Status). refusedCall m x reply
 unfoldable pub transmit : Sender → List ℕ → List ℕ → SenderAfter
 transmit m file reply =
     unlessRefused (statusOf m file reply) m reply
-    (replied m (m .reader) 0 nowhere (senderLeaves (settingsOf m) file (m .core .state) (m .reader .checked)) reply)
+    (replied m (m .reader) 0 nowhere (senderTransmits (settingsOf m) file (m .core .state) (m .reader .checked)) reply)
 
 abbrev pub arrived : Sender → Received → List ℕ → SenderAfter
 arrived m g reply =
@@ -100,10 +100,10 @@ receive m chunk file reply = unlessRefused (statusOf m file reply) m reply (arri
 unfoldable pub timeout : Sender → List ℕ → List ℕ → SenderAfter
 timeout m file reply =
     unlessRefused (statusOf m file reply) m reply
-    (replied m (m .reader) 0 nowhere (senderTimes (m .core .state) (m .reader .checked)) reply)
+    (replied m (m .reader) 0 nowhere (senderTimesOut (m .core .state) (m .reader .checked)) reply)
 
 -- the operator's stop
 unfoldable pub cancel : Sender → List ℕ → List ℕ → SenderAfter
 cancel m file reply =
     unlessRefused (statusOf m file reply) m reply
-    (replied m (m .reader) 0 nowhere (senderStops (m .core .state) (m .reader .checked)) reply)
+    (replied m (m .reader) 0 nowhere (senderCancels (m .core .state) (m .reader .checked)) reply)

@@ -106,7 +106,7 @@ impl Sender {
     pub fn transmit(self, file: &[u8], reply: &mut [u8]) -> SenderAnswer
         ensures { λ r. ⌜ transmitOf self (now (file .entry)) (now (reply .entry)) ≡ record { answer = r; reply = now (reply .exit) } ⌝ }
     {
-        settled(self, Event::Leave, file, reply)
+        settled(self, Event::Transmit, file, reply)
     }
 
     // Bytes have arrived: takes them at most to the end of one packet.
@@ -124,13 +124,13 @@ impl Sender {
     pub fn timeout(self, file: &[u8], reply: &mut [u8]) -> SenderAnswer
         ensures { λ r. ⌜ timeoutOf self (now (file .entry)) (now (reply .entry)) ≡ record { answer = r; reply = now (reply .exit) } ⌝ }
     {
-        settled(self, Event::Timer, file, reply)
+        settled(self, Event::Timeout, file, reply)
     }
 
     // The operator's stop.
     pub fn cancel(self, file: &[u8], reply: &mut [u8]) -> SenderAnswer
         ensures { λ r. ⌜ cancelOf self (now (file .entry)) (now (reply .entry)) ≡ record { answer = r; reply = now (reply .exit) } ⌝ }
     {
-        settled(self, Event::Stop, file, reply)
+        settled(self, Event::Cancel, file, reply)
     }
 }

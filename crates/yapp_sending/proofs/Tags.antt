@@ -9,12 +9,13 @@ use Rattle.calls.specs.declared.Outcome.the-variants.{TimedOut, Stopped}
 use Rattle.yapp.specs.declared.SenderState.{SenderState}
 use Rattle.yapp.specs.declared.SenderState.the-variants.{S, SH, SD, SE, ST, CW, Ended}
 use Rattle.yapp.proofs.SenderState.{the-type}
-use Rattle.yapp.specs.Steps.{SenderSettings, sends, aborts, senderLeaves, senderTimes, senderStops}
+use Rattle.yapp.specs.Steps.{SenderSettings, sends, aborts, senderTransmits, senderTimesOut, senderCancels}
+use Rattle.yapp_sending.specs.Sending.{countedTransmit}
 
 -- the states in which a call does the same
 module _ (s : SenderSettings) (file : List ℕ) (c : Bool) where
-  pub leaves-none : (x : SenderState) → OneOf (1 ∷ 3 ∷ 4 ∷ 5 ∷ 6 ∷ []) (tagOf the-type x) → sends x c [] ≡ senderLeaves s file x c
-  unfolding senderLeaves
+  pub leaves-none : (x : SenderState) → OneOf (1 ∷ 3 ∷ 4 ∷ 5 ∷ 6 ∷ []) (tagOf the-type x) → sends x c [] ≡ countedTransmit s file x c
+  unfolding senderTransmits
   leaves-none (S begun timeouts) k = absurd (miss (1 ∷ 3 ∷ 4 ∷ 5 ∷ 6 ∷ []) 0 tt k)
   leaves-none SH k = refl
   leaves-none (SD n) k = absurd (miss (1 ∷ 3 ∷ 4 ∷ 5 ∷ 6 ∷ []) 2 tt k)
@@ -24,8 +25,8 @@ module _ (s : SenderSettings) (file : List ℕ) (c : Bool) where
   leaves-none (Ended o) k = refl
 
 module _ (c : Bool) where
-  pub times-abort : (x : SenderState) → OneOf (1 ∷ 3 ∷ []) (tagOf the-type x) → aborts TimedOut c ≡ senderTimes x c
-  unfolding senderTimes
+  pub times-abort : (x : SenderState) → OneOf (1 ∷ 3 ∷ []) (tagOf the-type x) → aborts TimedOut c ≡ senderTimesOut x c
+  unfolding senderTimesOut
   times-abort (S begun timeouts) k = absurd (miss (1 ∷ 3 ∷ []) 0 tt k)
   times-abort SH k = refl
   times-abort (SD n) k = absurd (miss (1 ∷ 3 ∷ []) 2 tt k)
@@ -34,8 +35,8 @@ module _ (c : Bool) where
   times-abort (CW o) k = absurd (miss (1 ∷ 3 ∷ []) 5 tt k)
   times-abort (Ended o) k = absurd (miss (1 ∷ 3 ∷ []) 6 tt k)
 
-  pub times-none : (x : SenderState) → OneOf (2 ∷ 6 ∷ []) (tagOf the-type x) → sends x c [] ≡ senderTimes x c
-  unfolding senderTimes
+  pub times-none : (x : SenderState) → OneOf (2 ∷ 6 ∷ []) (tagOf the-type x) → sends x c [] ≡ senderTimesOut x c
+  unfolding senderTimesOut
   times-none (S begun timeouts) k = absurd (miss (2 ∷ 6 ∷ []) 0 tt k)
   times-none SH k = absurd (miss (2 ∷ 6 ∷ []) 1 tt k)
   times-none (SD n) k = refl
@@ -44,8 +45,8 @@ module _ (c : Bool) where
   times-none (CW o) k = absurd (miss (2 ∷ 6 ∷ []) 5 tt k)
   times-none (Ended o) k = refl
 
-  pub stops-none : (x : SenderState) → OneOf (5 ∷ 6 ∷ []) (tagOf the-type x) → sends x c [] ≡ senderStops x c
-  unfolding senderStops
+  pub stops-none : (x : SenderState) → OneOf (5 ∷ 6 ∷ []) (tagOf the-type x) → sends x c [] ≡ senderCancels x c
+  unfolding senderCancels
   stops-none (S begun timeouts) k = absurd (miss (5 ∷ 6 ∷ []) 0 tt k)
   stops-none SH k = absurd (miss (5 ∷ 6 ∷ []) 1 tt k)
   stops-none (SD n) k = absurd (miss (5 ∷ 6 ∷ []) 2 tt k)
@@ -54,8 +55,8 @@ module _ (c : Bool) where
   stops-none (CW o) k = refl
   stops-none (Ended o) k = refl
 
-  pub stops-abort : (x : SenderState) → OneOf (0 ∷ 1 ∷ 2 ∷ 3 ∷ 4 ∷ []) (tagOf the-type x) → aborts Stopped c ≡ senderStops x c
-  unfolding senderStops
+  pub stops-abort : (x : SenderState) → OneOf (0 ∷ 1 ∷ 2 ∷ 3 ∷ 4 ∷ []) (tagOf the-type x) → aborts Stopped c ≡ senderCancels x c
+  unfolding senderCancels
   stops-abort (S begun timeouts) k = refl
   stops-abort SH k = refl
   stops-abort (SD n) k = refl

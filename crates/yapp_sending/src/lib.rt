@@ -4,19 +4,18 @@ use yapp::SenderState;
 use yapp_core::SenderCore;
 ghost use mathlib.Core.Path.{_≡_};
 ghost use mathlib.Core.List.{List};
-ghost use Prim.Native.Nat.{ℕ, _≤_};
-ghost use lib.ListN.{length};
+ghost use Prim.Native.Nat.{ℕ};
 ghost use Rattle.yapp.specs.declared.SenderState.the-variants.{S, CW, Ended};
-ghost use Rattle.yapp.specs.Steps.{SenderSettings, sendsBlock, senderLeaves, senderTimes, senderStops};
+ghost use Rattle.yapp.specs.Steps.{SenderSettings, senderTransmits, senderTimesOut, senderCancels};
 ghost use Rattle.yapp_sending.specs.declared.Signal.the-variants.{CN};
 ghost use Rattle.yapp_sending.specs.declared.Out.the-variants.{Nothing, Of};
-ghost use Rattle.yapp_sending.specs.Sending.{moveOf, happensBy};
+ghost use Rattle.yapp_sending.specs.Sending.{moveOf, countedBlock, countedTransmit, countedBy};
 
 // What the host brings: a chance to send (leave), the timer, the operator's stop.
 pub enum Event {
-    Leave,
-    Timer,
-    Stop,
+    Transmit,
+    Timeout,
+    Cancel,
 }
 
 // The packets that carry nothing; a CN has no reason.
@@ -82,7 +81,7 @@ fn ends(outcome: Outcome, checked: bool) -> Step
 
 // A leave in S: the first gives SI, a later one nothing.
 fn announces(begun: bool, timeouts: u8, checked: bool) -> Step
-    ensures { λ r. ⌜ ((s : SenderSettings) (file : List ℕ) → moveOf s file r ≡ senderLeaves s file (S begun timeouts) checked) ⌝ }
+    ensures { λ r. ⌜ ((s : SenderSettings) (file : List ℕ) → moveOf s file r ≡ senderTransmits s file (S begun timeouts) checked) ⌝ }
 {
     let state = SenderState::S {
         begun: true,
@@ -94,9 +93,9 @@ fn announces(begun: bool, timeouts: u8, checked: bool) -> Step
     sends(state, checked, Signal::SI)
 }
 
-// A leave in SD: the next block, or EF after the last.
+// A leave in SD: the next block, or EF after the last. A block whose end the state cannot count is not sent.
 fn sends_block(block: usize, file: &[u8], at: u32, checked: bool) -> Step
-    ensures { λ r. ⌜ ((s : SenderSettings) → s .block ≡ block → length (now (file .entry)) ≤ 4294967295 → moveOf s (now (file .entry)) r ≡ sendsBlock s (now (file .entry)) at checked) ⌝ }
+    ensures { λ r. ⌜ ((s : SenderSettings) → s .block ≡ block → moveOf s (now (file .entry)) r ≡ countedBlock s (now (file .entry)) at checked) ⌝ }
 {
     let from = at as usize;
     if from < file.len() {
@@ -115,7 +114,7 @@ fn sends_block(block: usize, file: &[u8], at: u32, checked: bool) -> Step
 
 // A chance to send (leave): SI, or the next block of the file.
 fn leaves(state: SenderState, checked: bool, block: usize, file: &[u8]) -> Step
-    ensures { λ r. ⌜ ((s : SenderSettings) → s .block ≡ block → length (now (file .entry)) ≤ 4294967295 → moveOf s (now (file .entry)) r ≡ senderLeaves s (now (file .entry)) state checked) ⌝ }
+    ensures { λ r. ⌜ ((s : SenderSettings) → s .block ≡ block → moveOf s (now (file .entry)) r ≡ countedTransmit s (now (file .entry)) state checked) ⌝ }
 {
     match state {
         SenderState::S { begun, timeouts } => announces(begun, timeouts, checked),
@@ -130,7 +129,7 @@ fn leaves(state: SenderState, checked: bool, block: usize, file: &[u8]) -> Step
 
 // The timer in S: the first three after SI repeat it, the fourth aborts.
 fn repeats(begun: bool, timeouts: u8, checked: bool) -> Step
-    ensures { λ r. ⌜ ((s : SenderSettings) (file : List ℕ) → moveOf s file r ≡ senderTimes (S begun timeouts) checked) ⌝ }
+    ensures { λ r. ⌜ ((s : SenderSettings) (file : List ℕ) → moveOf s file r ≡ senderTimesOut (S begun timeouts) checked) ⌝ }
 {
     if begun {
         if timeouts < 3 {
@@ -147,7 +146,7 @@ fn repeats(begun: bool, timeouts: u8, checked: bool) -> Step
 
 // The timer ran out.
 fn times(state: SenderState, checked: bool) -> Step
-    ensures { λ r. ⌜ ((s : SenderSettings) (file : List ℕ) → moveOf s file r ≡ senderTimes state checked) ⌝ }
+    ensures { λ r. ⌜ ((s : SenderSettings) (file : List ℕ) → moveOf s file r ≡ senderTimesOut state checked) ⌝ }
 {
     match state {
         SenderState::S { begun, timeouts } => repeats(begun, timeouts, checked),
@@ -160,7 +159,7 @@ fn times(state: SenderState, checked: bool) -> Step
 
 // The operator's stop.
 fn stops(state: SenderState, checked: bool) -> Step
-    ensures { λ r. ⌜ ((s : SenderSettings) (file : List ℕ) → moveOf s file r ≡ senderStops state checked) ⌝ }
+    ensures { λ r. ⌜ ((s : SenderSettings) (file : List ℕ) → moveOf s file r ≡ senderCancels state checked) ⌝ }
 {
     match state {
         SenderState::CW { .. } | SenderState::Ended { .. } => Step {
@@ -176,14 +175,14 @@ fn stops(state: SenderState, checked: bool) -> Step
     }
 }
 
-// An event; the file is within the numbers that a state counts in.
+// An event.
 pub fn happens(core: SenderCore, checked: bool, event: Event, file: &[u8]) -> Step
-    ensures { λ r. ⌜ ((s : SenderSettings) → s .block ≡ core .block → length (now (file .entry)) ≤ 4294967295 → moveOf s (now (file .entry)) r ≡ happensBy s (now (file .entry)) event (core .state) checked) ⌝ }
+    ensures { λ r. ⌜ ((s : SenderSettings) → s .block ≡ core .block → moveOf s (now (file .entry)) r ≡ countedBy s (now (file .entry)) event (core .state) checked) ⌝ }
 {
     let state = core.state;
     match event {
-        Event::Leave => leaves(state, checked, core.block, file),
-        Event::Timer => times(state, checked),
-        Event::Stop => stops(state, checked),
+        Event::Transmit => leaves(state, checked, core.block, file),
+        Event::Timeout => times(state, checked),
+        Event::Cancel => stops(state, checked),
     }
 }

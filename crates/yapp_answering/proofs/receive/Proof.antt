@@ -1,6 +1,7 @@
--- `receive` checks the call. Assumes nothing.
-use mathlib.Core.Path.{_∙_}
+-- `receive` checks the call, reads, decides and answers. Assumes nothing.
+use mathlib.Core.Path.{refl, _∙_}
 use denote.Ref.{now}
+use Rattle.yapp_core.specs.Core.{settingsBy}
 use Rattle.calls.proofs.Laws.{taken-room, taken-by}
 use Rattle.yapp_answering.proofs.Calls.{receive-taken, receive-refused}
 use borrow.Author.Needs.{needs}
@@ -13,18 +14,29 @@ check-requires c κs = search needs
 is-taken-requires : tie.Need-is-taken-requires
 is-taken-requires c κs = search needs
 
-arrive-requires : tie.Need-arrive-requires
-arrive-requires c κs =
-    taken-room _ _ _ _ _ (taken-by (c .before .before .before .check .ensures) (c .before .before .is-taken .ensures) (c .before .if1 .taken)) .0
+receive-requires : tie.Need-receive-requires
+receive-requires c κs = search needs
+
+checked-requires : tie.Need-checked-requires
+checked-requires c κs = search needs
+
+takes-requires : tie.Need-takes-requires
+takes-requires c κs = search needs
+
+shown-in-requires : tie.Need-shown-in-requires
+shown-in-requires c κs = search needs
+
+finish-requires : tie.Need-finish-requires
+finish-requires c κs =
+    taken-room _ _ _ _ _ (taken-by (c .before .before .before .before .before .before .before .before .check .ensures) (c .before .before .before .before .before .before .before .is-taken .ensures) (c .before .before .before .before .before .before .if1 .taken)) .0
 
 same-length : tie.Need-same-length
 same-length c = search needs
 
 returns : tie.Need-returns
 returns c =
-    let a = c .before .before .before .before .before .before .before .before .before .before .args in
-    receive-taken (a .core) (a .reader) (a .name) (now (a .file)) (now (a .reply)) (now (a .chunk)) (taken-by (c .before .before .before .before .before .before .check .ensures) (c .before .before .before .before .before .is-taken .ensures) (c .before .before .before .before .if1 .taken))
-    ∙ c .before .before .arrive .ensures
+    let a = c .before .before .before .before .before .before .before .before .before .before .before .before .before .before .before .args in
+    receive-taken (a .core) (a .reader) (a .name) (now (a .file)) (now (a .reply)) (now (a .chunk)) (c .before .before .before .before .before .before .before .checked .result) (c .before .before .before .before .before .before .before .before .receive .result) (c .before .before .before .before .before .shown-in .result) _ _ (taken-by (c .before .before .before .before .before .before .before .before .before .before .before .check .ensures) (c .before .before .before .before .before .before .before .before .before .before .is-taken .ensures) (c .before .before .before .before .before .before .before .before .before .if1 .taken)) (c .before .before .before .before .before .before .before .checked .ensures) (c .before .before .before .before .before .before .before .before .receive .ensures) (c .before .before .before .before .before .shown-in .ensures) (c .before .before .before .before .before .before .takes .ensures (settingsBy (a .core) (a .name)) (now (a .file)) refl refl) (c .before .before .finish .ensures)
 
 refuse-requires : tie.Need-refuse-requires
 refuse-requires c κs = search needs
@@ -36,4 +48,17 @@ returns-2 c =
     ∙ rw (c .refuse .ensures, c .before .before .before .check .ensures)
 
 pub receive-spec : {M : Type 1} → statement M
-receive-spec = tie.close (tie.spec check-requires is-taken-requires arrive-requires same-length returns refuse-requires returns-2)
+receive-spec =
+    tie.close
+    (tie.spec
+    check-requires
+    is-taken-requires
+    receive-requires
+    checked-requires
+    takes-requires
+    shown-in-requires
+    finish-requires
+    same-length
+    returns
+    refuse-requires
+    returns-2)

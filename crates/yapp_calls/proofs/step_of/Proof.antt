@@ -6,23 +6,23 @@ use Rattle.yapp_calls.proofs.step_of.Tie as tie
 enum-told : tie.Need-enum-told
 enum-told c = search needs
 
-time-out-requires : tie.Need-time-out-requires
-time-out-requires c κs = search needs
+timeout-requires : tie.Need-timeout-requires
+timeout-requires c κs = search needs
 
 enum-told-2 : tie.Need-enum-told-2
 enum-told-2 c = search needs
 
-stop-requires : tie.Need-stop-requires
-stop-requires c κs = search needs
+cancel-requires : tie.Need-cancel-requires
+cancel-requires c κs = search needs
 
 returns : tie.Need-returns
 returns c =
-    λ a p. rw (c .before .enum-told .given .1) (c .time-out .ensures a p)
+    λ a p. rw (c .before .enum-told .given .1) (c .timeout .ensures a p)
 
 returns-2 : tie.Need-returns-2
 returns-2 c =
-    λ a p. rw (c .before .enum-told2 .given .1) (c .stop .ensures a p)
+    λ a p. rw (c .before .enum-told2 .given .1) (c .cancel .ensures a p)
 
 pub step-of-spec : {M : Type 1} → statement M
 step-of-spec =
-    tie.close (tie.spec enum-told time-out-requires enum-told-2 stop-requires returns returns-2)
+    tie.close (tie.spec enum-told timeout-requires enum-told-2 cancel-requires returns returns-2)

@@ -23,13 +23,13 @@ stops-requires : tie.Need-stops-requires
 stops-requires c κs = search needs
 
 returns : tie.Need-returns
-returns c = λ s b h. c .leaves .ensures s b h ∙ rw (c .before .enum-told .given .1)
+returns c = λ s b. c .leaves .ensures s b ∙ rw (c .before .enum-told .given .1)
 
 returns-2 : tie.Need-returns-2
-returns-2 c = λ s b h. c .times .ensures s _ ∙ rw (c .before .enum-told2 .given .1)
+returns-2 c = λ s b. c .times .ensures s _ ∙ rw (c .before .enum-told2 .given .1)
 
 returns-3 : tie.Need-returns-3
-returns-3 c = λ s b h. c .stops .ensures s _ ∙ rw (c .before .enum-told3 .given .1)
+returns-3 c = λ s b. c .stops .ensures s _ ∙ rw (c .before .enum-told3 .given .1)
 
 pub happens-spec : {M : Type 1} → statement M
 happens-spec =

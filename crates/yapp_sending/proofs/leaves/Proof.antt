@@ -1,7 +1,7 @@
 -- What a leave does, by the state. Assumes nothing.
 use mathlib.Core.Path.{_∙_}
 use denote.Ref.{now}
-use Rattle.yapp.specs.Steps.{senderLeaves}
+use Rattle.yapp.specs.Steps.{senderTransmits}
 use Rattle.yapp_sending.proofs.Tags.{leaves-none}
 use borrow.Author.Needs.{needs}
 use Rattle.yapp_sending.proofs.leaves.Statement.{statement}
@@ -23,17 +23,17 @@ stays-requires : tie.Need-stays-requires
 stays-requires c κs = search needs
 
 returns : tie.Need-returns
-unfolding senderLeaves
-returns c = λ s h g. c .announces .ensures s _ ∙ rw (c .before .before .state .given .1)
+unfolding senderTransmits
+returns c = λ s h. c .announces .ensures s _ ∙ rw (c .before .before .state .given .1)
 
 returns-2 : tie.Need-returns-2
-unfolding senderLeaves
-returns-2 c = λ s h g. c .sends-block .ensures s h g ∙ rw (c .before .before .state2 .given .1)
+unfolding senderTransmits
+returns-2 c = λ s h. c .sends-block .ensures s h ∙ rw (c .before .before .state2 .given .1)
 
 returns-3 : tie.Need-returns-3
 returns-3 c =
     let a = c .before .before .before .args in
-    λ s h g. rw (c .stays .ensures) (leaves-none s (now (a .file)) (a .checked) (a .state) (c .before .match .keys3))
+    λ s h. rw (c .stays .ensures) (leaves-none s (now (a .file)) (a .checked) (a .state) (c .before .match .keys3))
 
 pub leaves-spec : {M : Type 1} → statement M
 leaves-spec =

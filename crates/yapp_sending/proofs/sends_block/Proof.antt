@@ -1,9 +1,7 @@
 -- The next block, or EF. Assumes nothing.
-use native.Mathlib.Omega.{arith}
 use borrow.Author.Tests.{lt-ltb, le-ltb}
-use denote.Ref.{now}
 use Rattle.yapp.specs.Steps.{sendsBlock}
-use Rattle.yapp_sending.proofs.Blocks.{block-ends}
+use Rattle.yapp_sending.specs.Sending.{countedBlock}
 use borrow.Author.Needs.{needs}
 use Rattle.yapp_sending.proofs.sends_block.Statement.{statement}
 use Rattle.yapp_sending.proofs.sends_block.Tie as tie
@@ -18,25 +16,22 @@ stays-requires : tie.Need-stays-requires
 stays-requires c κs = search needs
 
 returns : tie.Need-returns
-returns c =
-    let a = c .before .before .before .before .before .args in
-    λ s h g.
-    let z = block-ends (a .at) (a .block) (now (a .file)) (now (c .before .before .part .result)) (c .before .before .part .ensures) (c .before .before .before .if1 .taken) g in
-    absurd (omega (arith, z, c .before .if2 .taken))
+unfolding countedBlock
+returns c = λ s h. rw (c .stays .ensures, lt-ltb _ _ (c .before .before .before .if1 .taken), h, ← c .before .before .part .ensures, lt-ltb _ _ (c .before .if2 .taken))
 
 cast-t13 : tie.Need-cast-t13
 cast-t13 c = search needs
 
 returns-2 : tie.Need-returns-2
-unfolding sendsBlock
-returns-2 c = λ s h g. rw (lt-ltb _ _ (c .before .before .if1 .taken), h, c .before .part .ensures)
+unfolding countedBlock sendsBlock
+returns-2 c = λ s h. rw (lt-ltb _ _ (c .before .before .if1 .taken), h, ← c .before .part .ensures, le-ltb _ _ (c .if2 .left))
 
 sends-requires : tie.Need-sends-requires
 sends-requires c κs = search needs
 
 returns-3 : tie.Need-returns-3
-unfolding sendsBlock
-returns-3 c = λ s h g. rw (c .sends .ensures, le-ltb _ _ (c .before .if1 .left))
+unfolding countedBlock sendsBlock
+returns-3 c = λ s h. rw (c .sends .ensures, le-ltb _ _ (c .before .if1 .left))
 
 pub sends-block-spec : {M : Type 1} → statement M
 sends-block-spec =

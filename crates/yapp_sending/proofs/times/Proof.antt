@@ -1,6 +1,6 @@
 -- What a timeout does, by the state. Assumes nothing.
 use mathlib.Core.Path.{_∙_}
-use Rattle.yapp.specs.Steps.{senderTimes}
+use Rattle.yapp.specs.Steps.{senderTimesOut}
 use Rattle.yapp_sending.proofs.Tags.{times-abort, times-none}
 use borrow.Author.Needs.{needs}
 use Rattle.yapp_sending.proofs.times.Statement.{statement}
@@ -31,7 +31,7 @@ stays-requires : tie.Need-stays-requires
 stays-requires c κs = search needs
 
 returns : tie.Need-returns
-unfolding senderTimes
+unfolding senderTimesOut
 returns c = λ s file. c .repeats .ensures s file ∙ rw (c .before .before .state .given .1)
 
 returns-2 : tie.Need-returns-2
@@ -40,11 +40,11 @@ returns-2 c =
     λ s file. rw (c .aborts .ensures) (times-abort (a .checked) (a .state) (c .before .match .keys2))
 
 returns-3 : tie.Need-returns-3
-unfolding senderTimes
+unfolding senderTimesOut
 returns-3 c = λ s file. rw (c .ends .ensures, c .before .enum-told .given .1)
 
 returns-4 : tie.Need-returns-4
-unfolding senderTimes
+unfolding senderTimesOut
 returns-4 c = λ s file. rw (c .ends2 .ensures, c .before .before .state2 .given .1)
 
 returns-5 : tie.Need-returns-5

@@ -1,11 +1,11 @@
--- `time_out` goes by the state. Assumes nothing.
+-- `timeout` goes by the state. Assumes nothing.
 use Rattle.yapp_steps.specs.Receiving.{currentIn}
 use Rattle.yapp_receiving.proofs.Moves.{times-open, times-rest}
 use mathlib.Core.Path.{sym, _∙_}
 use denote.Ref.{now}
 use borrow.Author.Needs.{needs}
-use Rattle.yapp_receiving.proofs.time_out.Statement.{statement}
-use Rattle.yapp_receiving.proofs.time_out.Tie as tie
+use Rattle.yapp_receiving.proofs.timeout.Statement.{statement}
+use Rattle.yapp_receiving.proofs.timeout.Tie as tie
 
 current-of-requires : tie.Need-current-of-requires
 current-of-requires c κs = search needs
@@ -32,7 +32,7 @@ returns-2 c a p =
     let g = c .before .before .before .before .before .before .args in
     rw (c .stay .ensures, c .before .leave .ensures, c .before .before .before .before .current-of .ensures) (times-rest (currentIn (g .core) (g .checked)) (now (g .name)) a p (g .core .state) (sym (c .before .before .before .is-open .ensures) ∙ c .before .before .if1 .left))
 
-pub time-out-spec : {M : Type 1} → statement M
-time-out-spec =
+pub timeout-spec : {M : Type 1} → statement M
+timeout-spec =
     tie.close
     (tie.spec current-of-requires is-open-requires fail-requires returns leave-requires stay-requires returns-2)

@@ -1,11 +1,11 @@
--- `stop` goes by the state. Assumes nothing.
+-- `cancel` goes by the state. Assumes nothing.
 use Rattle.yapp_steps.specs.Receiving.{currentIn}
 use Rattle.yapp_receiving.proofs.Moves.{stops-open, stops-rest}
 use mathlib.Core.Path.{sym, _∙_}
 use denote.Ref.{now}
 use borrow.Author.Needs.{needs}
-use Rattle.yapp_receiving.proofs.stop.Statement.{statement}
-use Rattle.yapp_receiving.proofs.stop.Tie as tie
+use Rattle.yapp_receiving.proofs.cancel.Statement.{statement}
+use Rattle.yapp_receiving.proofs.cancel.Tie as tie
 
 current-of-requires : tie.Need-current-of-requires
 current-of-requires c κs = search needs
@@ -29,5 +29,5 @@ returns-2 c a p =
     let g = c .before .before .before .before .before .args in
     rw (c .stay .ensures, c .before .before .before .current-of .ensures) (stops-rest (currentIn (g .core) (g .checked)) (now (g .name)) a p (g .core .state) (sym (c .before .before .is-open .ensures) ∙ c .before .if1 .left))
 
-pub stop-spec : {M : Type 1} → statement M
-stop-spec = tie.close (tie.spec current-of-requires is-open-requires fail-requires returns stay-requires returns-2)
+pub cancel-spec : {M : Type 1} → statement M
+cancel-spec = tie.close (tie.spec current-of-requires is-open-requires fail-requires returns stay-requires returns-2)
