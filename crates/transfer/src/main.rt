@@ -270,7 +270,7 @@ fn start(words: usize, path: &[u8], seed: &[u8]) {
         return say(b"transfer [PATH [SEED]]\n", b"");
     }
     if path.len() == 0 {
-        return say(b"a path has 1 to 4096 bytes\n", b"");
+        return say(b"a path has 1 to 4095 bytes\n", b"");
     }
     if words < 3 {
         return run(path, 1);
