@@ -6,7 +6,7 @@ use Prim.Native.Nat.{ℕ, _≤_}
 use native.Mathlib.Omega.{arith}
 use lib.ListN.{length}
 use lib.Dec.{ltb, eqb}
-use borrow.Author.Tests.{ltb-false, eqb-true, le-ltb}
+use borrow.Author.Tests.{ltb-false, eqb-true, le-ltb, eq-eqb}
 use Rattle.fields.specs.Pick.{pick}
 use Rattle.fields.specs.declared.Written.{Written}
 use Rattle.fields.specs.Buffer.{Form, formless, bytes, bytesIn, over, writtenOf, leftOf}
@@ -49,6 +49,18 @@ taken-room ended reply frame lent given h = go ended refl (ltb reply 259) refl (
     go false p false q true s l t = let z : false ≡ true = rw (p, q, s) at h in let o : _≡_ {A = ℕ} 0 1 = cc in absurd (omega arith)
     go false p false q false s false t = let z : false ≡ true = rw (p, q, s, t) at h in let o : _≡_ {A = ℕ} 0 1 = cc in absurd (omega arith)
     go false p false q false s true t = (ltb-false reply 259 q, ltb-false 256 frame s, eqb-true lent given t)
+
+-- it is at an end that has not ended
+pub taken-open : (ended : Bool) (reply frame lent given : ℕ) → isTaken (checkOf ended reply frame lent given) ≡ true → ended ≡ false
+unfolding checkOf
+taken-open true reply frame lent given h = sym h
+taken-open false reply frame lent given h = refl
+
+-- and a call with all of this is taken
+pub check-taken : {ended : Bool} (reply frame lent given : ℕ) → ended ≡ false → 259 ≤ reply → frame ≤ 256 → lent ≡ given
+    → checkOf ended reply frame lent given ≡ Taken
+unfolding checkOf
+check-taken reply frame lent given e r f l = rw (e, le-ltb reply 259 r, le-ltb 256 frame f, eq-eqb lent given l)
 
 -- what a call knows that asked for its status and whether it is taken
 pub taken-by : {s t : Status} {b x : Bool} → s ≡ t → b ≡ isTaken s → b ≡ x → isTaken t ≡ x

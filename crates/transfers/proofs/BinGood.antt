@@ -3,8 +3,8 @@
 use Prim.Native.Nat.{ℕ, _+_, _≤_, _<_}
 use mathlib.Core.Path.{_≡_, refl, ap, sym, _∙_}
 use mathlib.Core.Logic.{_≢_}
-use mathlib.Core.Bool.{Bool, true, false}
-use mathlib.Core.List.{List, [], _∷_, _++_}
+use mathlib.Core.Bool.{Bool, true, false, false≢true}
+use mathlib.Core.List.{List, [], _∷_, _++_, append-nil}
 use mathlib.Core.Option.{Option, none, some}
 use native.Mathlib.Omega.{arith}
 use lib.Dec.{eqb, leb}
@@ -19,7 +19,7 @@ use Rattle.fields.specs.Buffer.{appended}
 use Rattle.fields.proofs.Lists.{same-refl}
 use Rattle.crc.specs.Crc.{crcOf}
 use Rattle.lines.specs.Frame.{starts, stopFrame}
-use Rattle.lines.specs.Element.{extended, okName, stop, formOf}
+use Rattle.lines.specs.Element.{okName, formOf}
 use Rattle.records.specs.Saved.{Saved, stampFits}
 use Rattle.calls.specs.declared.Outcome.{Outcome}
 use Rattle.calls.specs.declared.Outcome.the-variants.{Success, CheckFailed}
@@ -28,12 +28,12 @@ use Rattle.bin.specs.declared.SenderState.{SenderState}
 use Rattle.bin.specs.declared.SenderState.the-variants.{Start, Wait, Send, Ended}
 use Rattle.bin.specs.declared.ReceiverState.{ReceiverState}
 use Rattle.bin.specs.declared.ReceiverState.the-variants.{Waiting, Basic as TakesBasic, Extended as Takes, Ended as Over}
-use Rattle.bin.specs.Steps.{bytesIn, heard, SenderSettings, SenderMove, goes, sendsFrom, resumesAt, senderHears, senderTakes, senderFails, ReceiverSettings, ReceiverMove, answers, says, judgeWhole, judgeRecord, judgeExtended, receiverHears, takesFrame, receiverFails}
+use Rattle.bin.specs.Steps.{bytesIn, heard, joined, SenderSettings, SenderMove, goes, sendsFrom, resumesAt, senderHears, senderTakes, senderFails, ReceiverSettings, ReceiverMove, answers, says, judgeWhole, judgeRecord, judgeExtended, receiverHears, takesFrame, receiverFails, receiverEnded}
 use Rattle.transfers.specs.MachinesBin.{cut, senderTransmits, receiverTakes}
 use Rattle.transfers.specs.World.{World}
-use Rattle.transfers.specs.Bin.{Settings}
+use Rattle.transfers.specs.Bin.{Settings, acceptedBy, fileIn}
 use Rattle.transfers.proofs.Stored.{Stored, Stores, unmoved, kept-within}
-use Rattle.transfers.proofs.BinFrames.{Block, Cut, cuts, sentTo, sent-one, ourLine, ourKept, line-said, ok-said, kept-said, stop-said, held, restamped, grown-by}
+use Rattle.transfers.proofs.BinFrames.{Block, Cut, cuts, sentTo, sent-one, ourLine, ourKept, line-said, ok-said, kept-said, ok-starts, kept-starts, stop-said, held, restamped, grown-by}
 
 -- ---- the frames on the way to the receiver
 
@@ -60,6 +60,13 @@ frames-le (frame d h r) = omega (arith, frames-le r)
 pub data Stops : List (List ℕ) → Type 0 where
   none-yet : Stops []
   stop-sent : Stops (stopFrame ∷ [])
+
+-- a line was accepted, and the end is not reached
+abbrev pub isTaking : ReceiverState → Bool
+isTaking Waiting = false
+isTaking (TakesBasic size kept) = true
+isTaking (Takes crc) = true
+isTaking (Over o) = false
 
 pub data EndedS : SenderState → Type 0 where
   is-ended : {o : Outcome} → EndedS (Ended o)
@@ -106,21 +113,21 @@ module _ (w : World) where
     faded : OverR r → Inv s r v lr ls false
 
   -- ---- what a receiver answers to a frame of the file and to the line
-  pub data Judged (k : ℕ) (m : Stamp) (area : List ℕ) (reply : List (List ℕ)) (n : ℕ) : ReceiverMove → Type 0 where
-    judged : {s : ReceiverState} → Stage k s → Judged k m area reply n (answers s (held w k m) area reply n)
+  pub data Judged (k : ℕ) (m : Stamp) (area : List ℕ) (reply : List (List ℕ)) : ReceiverMove → Type 0 where
+    judged : {s : ReceiverState} {n : ℕ} → Stage k s → Judged k m area reply (answers s (held w k m) area reply n)
 
   pub data Accepts (area : List ℕ) (tally : ℕ) : ReceiverMove → Type 0 where
     at : {k : ℕ} {s : ReceiverState} {m : Stamp} {q : List ℕ} → stampFits m ≡ true → Stage k s → OkReply k q → k ≡ tally
-        → Accepts area tally (answers s (held w k m) area (q ∷ []) 0)
+        → {n : ℕ} → Accepts area tally (answers s (held w k m) area (q ∷ []) n)
 
   -- both CRCs are those of the same file
   judge : (k : ℕ) (m : Stamp) (area : List ℕ) (reply : List (List ℕ)) (n tally : ℕ) → Stored w (held w k m) area tally
-      → Judged k m area reply n (judgeWhole (crcOf (w .file)) (held w k m) area reply n)
+      → Judged k m area reply (judgeWhole (crcOf (w .file)) (held w k m) area reply n)
   unfolding judgeWhole
   judge k m area reply n tally h = go (eqb k (length (w .file))) refl
     where
       go : (x : Bool) → eqb k (length (w .file)) ≡ x
-          → Judged k m area reply n (pick x
+          → Judged k m area reply (pick x
           (pick (eqb (crcOf (take (length (w .file)) area)) (crcOf (w .file))) (answers (Over Success) (held w k m) area reply n)
           (answers (Over CheckFailed) none area (stopFrame ∷ []) n)) (answers (Takes (crcOf (w .file))) (held w k m) area reply n))
       go true e =
@@ -137,7 +144,7 @@ module _ (w : World) where
   ourRoom = record { room = length (w .area); resumes = true }
 
   take-frame : (k : ℕ) (m : Stamp) (area : List ℕ) (tally : ℕ) (d : List ℕ) → Stored w (held w k m) area tally → Cut (w .file) k d
-      → Judged (k + length d) m (appended k d area) [] (length d) (receiverTakes ourRoom (Takes (crcOf (w .file))) (held w k m) area d)
+      → Judged (k + length d) m (appended k d area) [] (receiverTakes ourRoom (Takes (crcOf (w .file))) (held w k m) area d)
   unfolding receiverTakes takesFrame
   take-frame k m area tally [] h c = absurd (omega (arith, c .block .filled))
   take-frame k m area tally (b ∷ d) h c =
@@ -145,7 +152,7 @@ module _ (w : World) where
       (judge (k + length (b ∷ d)) m (appended k (b ∷ d) area) [] (length (b ∷ d)) (tally + length (b ∷ d)) (grown-by w (b ∷ d) h (c .block) .stored))
 
   accepts : {k : ℕ} {m : Stamp} {area : List ℕ} {tally : ℕ} {q : List ℕ} {a : ReceiverMove} → stampFits m ≡ true → OkReply k q → k ≡ tally
-      → Judged k m area (q ∷ []) 0 a → Accepts area tally a
+      → Judged k m area (q ∷ []) a → Accepts area tally a
   accepts f q e (judged s) = at f s q e
 
   line-kept : (v : Option Saved) (area : List ℕ) (tally : ℕ) (m : ℕ) → m ≤ 0xFFFFFFFF → Stored w v area tally
@@ -184,7 +191,16 @@ module _ (w : World) where
   ok-fits from-start = omega arith
   ok-fits (from-kept h) = h
 
-  ok-some : {k : ℕ} {q : List ℕ} → OkReply k q → 1 ≤ length q
+  -- an OK starts as one
+  reply-starts : {k : ℕ} {q : List ℕ} → OkReply k q → acceptedBy (q ++ []) false ≡ true
+  reply-starts from-start = rw (append-nil (bytesIn (formOf (okName (w .name)))), ok-starts w)
+  reply-starts (from-kept {k = k} h) = rw (append-nil (bytesIn (formOf (ourKept w k))), kept-starts w k h)
+
+  ok-short : {k : ℕ} {q : List ℕ} → OkReply k q → length q ≤ 256
+  ok-short from-start = ok-said w .in-frame
+  ok-short (from-kept {k = k} h) = kept-said w k h .in-frame
+
+  pub ok-some : {k : ℕ} {q : List ℕ} → OkReply k q → 1 ≤ length q
   ok-some from-start = ok-said w .some-bytes
   ok-some (from-kept {k = k} h) = kept-said w k h .some-bytes
 
@@ -206,7 +222,7 @@ module _ (w : World) where
           d = cut (t .block) (drop p (w .file))
 
           c : Cut (w .file) p d
-          c = cuts (w .file) p (t .block) h (t .block-some)
+          c = cuts (w .file) p (t .block) h (t .block-some) (t .block-most)
 
           go : (x : Bool) → leb (length (w .file)) (p + length d) ≡ x
               → Inv (pick x (Ended Success) (Send (p + length d))) (Takes (crcOf (w .file))) (held w k m) (l ++ (d ∷ [])) [] o
@@ -238,7 +254,7 @@ module _ (w : World) where
       inv-leaves (faded x) = faded x
 
       -- an OK is read
-      ok-read : {k : ℕ} {q : List ℕ} → OkReply k q → (f : List ℕ) → f ≡ q → 1 ≤ length f
+      pub ok-read : {k : ℕ} {q : List ℕ} → OkReply k q → (f : List ℕ) → f ≡ q → 1 ≤ length f
           → senderTakes ourSender (w .file) Wait f ≡ goes (sendsFrom (w .file) k) []
       unfolding senderTakes senderHears resumesAt
       ok-read q [] e l = absurd (omega arith)
@@ -269,25 +285,48 @@ module _ (w : World) where
 
   -- ---- the receiver's calls
   module _ (reply area : List ℕ) (tally : ℕ) where
-    pub record TakenOn (s : SenderState) (a : ReceiverMove) (lr ls : List (List ℕ)) (o : Bool) : Type 0 where
+    -- a receiver moved from r; n bytes of the file came
+    pub record TakenOn (r : ReceiverState) (s : SenderState) (a : ReceiverMove) (lr ls : List (List ℕ)) (o : Bool) (n : ℕ) : Type 0 where
       pub inv : Inv s (a .state) (a .saved) lr (sentTo ls (a .out) reply) o
-      pub stored : Stores w area (a .saved) (a .area) tally (a .stored)
+      pub stored : Stores w area (a .saved) (a .area) tally n
+      pub short : length (joined (a .out)) ≤ 256
+      pub seen : receiverEnded (a .state) ≡ false → acceptedBy (joined (a .out)) (isTaking r) ≡ isTaking (a .state)
+
+    -- nothing is sent, and a receiver that has not ended is where it was
+    unseen : (b : Bool) → acceptedBy [] b ≡ b
+    unfolding starts same
+    unseen b = refl
 
     stage-flight : {k p : ℕ} {s : ReceiverState} {m : Stamp} {x l : List (List ℕ)} → Stage k s → Stops x → Frames (w .file) x k p l
         → Flight s (held w k m) l
     stage-flight (some-left h) q r = frames q r
     stage-flight (all-there e) q r = at-rest
 
-    accept-good : {v : Option Saved} {a : ReceiverMove} {o : Bool} → Accepts area tally a → Stored w v area tally → TakenOn Wait a [] [] o
+    stage-seen : {k : ℕ} {s : ReceiverState} {q : List ℕ} → Stage k s → OkReply k q → receiverEnded s ≡ false → acceptedBy (q ++ []) false ≡ isTaking s
+    stage-seen (some-left h) q e = reply-starts q
+    stage-seen (all-there x) q e = absurd (false≢true (sym e))
+
+    stage-stays : {k : ℕ} {s : ReceiverState} → Stage k s → receiverEnded s ≡ false → acceptedBy [] true ≡ isTaking s
+    stage-stays (some-left h) e = unseen true
+    stage-stays (all-there x) e = absurd (false≢true (sym e))
+
+    accept-good : {v : Option Saved} {a : ReceiverMove} {o : Bool} → Accepts area tally a → Stored w v area tally → TakenOn Waiting Wait a [] [] o 0
     accept-good (at {k = k} {m = m} {q = p} f s q e) h = record {
       inv = rw (sent-one [] p reply (ok-some q)) (good (g2 s q));
       stored = unmoved w (restamped w k m h e f);
+      short = rw append-nil (ok-short q);
+      seen = stage-seen s q;
     }
 
     accept-fading : {v : Option Saved} {a : ReceiverMove} {s : SenderState} {l ls : List (List ℕ)} → Accepts area tally a → Stored w v area tally
-        → EndedS s → Stops l → TakenOn s a l ls false
+        → EndedS s → Stops l → TakenOn Waiting s a l ls false 0
     accept-fading (at {k = k} {m = m} f s q e) h x z =
-        record { inv = fades x (stage-flight s z sent); stored = unmoved w (restamped w k m h e f) }
+        record {
+          inv = fades x (stage-flight s z sent);
+          stored = unmoved w (restamped w k m h e f);
+          short = rw append-nil (ok-short q);
+          seen = stage-seen s q;
+        }
 
     stage-good : {k p : ℕ} {s : ReceiverState} {m : Stamp} {l : List (List ℕ)} {o : Bool} → Stage k s → p < length (w .file)
         → Frames (w .file) [] k p l → Inv (Send p) s (held w k m) l [] o
@@ -295,56 +334,82 @@ module _ (w : World) where
     stage-good (all-there e) q r = absurd (omega (arith, frames-le r))
 
     module _ {k : ℕ} {m : Stamp} {d : List ℕ} (h : Stored w (held w k m) area tally) (b : Block (w .file) k d) where
-      frame-send : {p : ℕ} {l : List (List ℕ)} {o : Bool} {a : ReceiverMove} → Judged (k + length d) m (appended k d area) [] (length d) a → p < length (w .file)
-          → Frames (w .file) [] (k + length d) p l → TakenOn (Send p) a l [] o
-      frame-send (judged s) q r = record { inv = stage-good s q r; stored = grown-by w d h b }
+      frame-send : {p : ℕ} {l : List (List ℕ)} {o : Bool} {a : ReceiverMove} → Judged (k + length d) m (appended k d area) [] a → p < length (w .file)
+          → Frames (w .file) [] (k + length d) p l → TakenOn (Takes (crcOf (w .file))) (Send p) a l [] o (length d)
+      frame-send (judged s) q r = record { inv = stage-good s q r; stored = grown-by w d h b; short = omega arith; seen = stage-stays s }
 
-      frame-ended : {l : List (List ℕ)} {o : Bool} {a : ReceiverMove} → Judged (k + length d) m (appended k d area) [] (length d) a
-          → Frames (w .file) [] (k + length d) (length (w .file)) l → TakenOn (Ended Success) a l [] o
-      frame-ended (judged s) r = record { inv = good (g4 s r); stored = grown-by w d h b }
+      frame-ended : {l : List (List ℕ)} {o : Bool} {a : ReceiverMove} → Judged (k + length d) m (appended k d area) [] a
+          → Frames (w .file) [] (k + length d) (length (w .file)) l → TakenOn (Takes (crcOf (w .file))) (Ended Success) a l [] o (length d)
+      frame-ended (judged s) r = record { inv = good (g4 s r); stored = grown-by w d h b; short = omega arith; seen = stage-stays s }
 
-      frame-fading : {p : ℕ} {s : SenderState} {x l ls : List (List ℕ)} {a : ReceiverMove} → Judged (k + length d) m (appended k d area) [] (length d) a
-          → EndedS s → Stops x → Frames (w .file) x (k + length d) p l → TakenOn s a l ls false
-      frame-fading (judged y) e z r = record { inv = fades e (stage-flight y z r); stored = grown-by w d h b }
+      frame-fading : {p : ℕ} {s : SenderState} {x l ls : List (List ℕ)} {a : ReceiverMove} → Judged (k + length d) m (appended k d area) [] a
+          → EndedS s → Stops x → Frames (w .file) x (k + length d) p l → TakenOn (Takes (crcOf (w .file))) s a l ls false (length d)
+      frame-fading (judged y) e z r = record { inv = fades e (stage-flight y z r); stored = grown-by w d h b; short = omega arith; seen = stage-stays y }
+
+    -- a receiver that has ended
+    over : {A : Type 0} → true ≡ false → A
+    over e = absurd (false≢true (sym e))
 
     over-takes : {s : SenderState} (o : Outcome) (v : Option Saved) {lr ls : List (List ℕ)} (f : List ℕ) → Stored w v area tally
-        → TakenOn s (receiverTakes ourRoom (Over o) v area f) lr ls false
+        → TakenOn (Over o) s (receiverTakes ourRoom (Over o) v area f) lr ls false 0
     unfolding receiverTakes
-    over-takes o v [] h = record { inv = faded is-over; stored = unmoved w h }
-    over-takes o v (b ∷ f) h = record { inv = faded is-over; stored = unmoved w h }
+    over-takes o v [] h = record { inv = faded is-over; stored = unmoved w h; short = omega arith; seen = λ e. over e }
+    over-takes o v (b ∷ f) h = record { inv = faded is-over; stored = unmoved w h; short = omega arith; seen = λ e. over e }
 
     early : {s : SenderState} {v : Option Saved} {a : ReceiverMove} {ls : List (List ℕ)} → a ≡ answers Waiting v area [] 0 → EndedS s → Stored w v area tally
-        → TakenOn s a [] ls false
-    early e x h = rw e (record { inv = fades x (no-line none-yet); stored = unmoved w h })
+        → TakenOn Waiting s a [] ls false 0
+    early e x h = rw e (record { inv = fades x (no-line none-yet); stored = unmoved w h; short = omega arith; seen = λ z. unseen false })
+
+    -- a frame of the file brings all its bytes, the stop frame none
+    brings : {k : ℕ} {d : List ℕ} → Cut (w .file) k d → fileIn true d ≡ length d
+    brings c = rw (c .no-display, c .no-stop)
 
     late : {s : SenderState} {k : ℕ} {m : Stamp} {ls : List (List ℕ)} → EndedS s → Stored w (held w k m) area tally
-        → TakenOn s (receiverTakes ourRoom (Takes (crcOf (w .file))) (held w k m) area stopFrame) [] ls false
+        → TakenOn (Takes (crcOf (w .file))) s (receiverTakes ourRoom (Takes (crcOf (w .file))) (held w k m) area stopFrame) [] ls false (fileIn true stopFrame)
     unfolding receiverTakes starts same
-    late x h = record { inv = fades x at-rest; stored = unmoved w h }
+    late x h = record { inv = fades x at-rest; stored = unmoved w h; short = omega arith; seen = λ e. over e }
 
     pub inv-takesR : {o : Bool} {s : SenderState} {r : ReceiverState} {v : Option Saved} {lr ls : List (List ℕ)} {f : List ℕ} → Inv s r v (f ∷ lr) ls o
-        → Stored w v area tally → TakenOn s (receiverTakes ourRoom r v area f) lr ls o
+        → Stored w v area tally → TakenOn r s (receiverTakes ourRoom r v area f) lr ls o (fileIn (isTaking r) f)
     inv-takesR (good (g1 {v = v} {m = m} x)) h = accept-good (take-line v area tally m x h) h
-    inv-takesR (good (g3 {k = k} {m = m} q (frame d c r))) h = frame-send h (c .block) (take-frame k m area tally d h c) q r
-    inv-takesR (good (g4 {k = k} {m = m} (some-left q) (frame d c r))) h = frame-ended h (c .block) (take-frame k m area tally d h c) r
+    inv-takesR (good (g3 {k = k} {m = m} q (frame d c r))) h = rw (brings c) (frame-send h (c .block) (take-frame k m area tally d h c) q r)
+    inv-takesR (good (g4 {k = k} {m = m} (some-left q) (frame d c r))) h = rw (brings c) (frame-ended h (c .block) (take-frame k m area tally d h c) r)
     inv-takesR (good (g4 (all-there e) (frame d c r))) h = absurd (omega (arith, c .block .filled, c .block .fits))
     inv-takesR {f = f} (fades e (at-rest {o = n} {v = v})) h = over-takes n v f h
     inv-takesR (fades e (no-line {v = v} stop-sent)) h = early (early-stop v area) e h
     inv-takesR (fades e (a-line {v = v} {m = m} x z)) h = accept-fading (take-line v area tally m x h) h e z
     inv-takesR (fades e (frames stop-sent sent)) h = late e h
-    inv-takesR (fades e (frames {k = k} {m = m} z (frame d c r))) h = frame-fading h (c .block) (take-frame k m area tally d h c) e z r
+    inv-takesR (fades e (frames {k = k} {m = m} z (frame d c r))) h = rw (brings c) (frame-fading h (c .block) (take-frame k m area tally d h c) e z r)
     inv-takesR {f = f} (faded (is-over {o = n})) h = over-takes n _ f h
 
-    -- an empty frame changes nothing
+    -- an empty frame changes nothing, and brings nothing
+    none-come : (b : Bool) → fileIn b [] ≡ 0
+    unfolding starts same
+    none-come true = refl
+    none-come false = refl
+
     pub inv-nothing : {o : Bool} {s : SenderState} (r : ReceiverState) (v : Option Saved) {lr ls : List (List ℕ)} → Inv s r v lr ls o
-        → Stored w v area tally → TakenOn s (receiverTakes ourRoom r v area []) lr ls o
+        → Stored w v area tally → TakenOn r s (receiverTakes ourRoom r v area []) lr ls o (fileIn (isTaking r) [])
     unfolding receiverTakes
-    inv-nothing r v i h = record { inv = i; stored = unmoved w h }
+    inv-nothing r v i h = rw (none-come (isTaking r)) (record { inv = i; stored = unmoved w h; short = omega arith; seen = λ e. unseen (isTaking r) })
 
     pub inv-failsR : {s : SenderState} (n : Outcome) (r : ReceiverState) (v : Option Saved) {lr ls : List (List ℕ)} → Stored w v area tally
-        → TakenOn s (receiverFails n r v area) lr ls false
+        → TakenOn r s (receiverFails n r v area) lr ls false 0
     unfolding receiverFails
-    inv-failsR n Waiting v h = record { inv = faded is-over; stored = unmoved w h }
-    inv-failsR n (TakesBasic size kept) v h = record { inv = faded is-over; stored = unmoved w h }
-    inv-failsR n (Takes crc) v h = record { inv = faded is-over; stored = unmoved w h }
-    inv-failsR n (Over e) v h = record { inv = faded is-over; stored = unmoved w h }
+    inv-failsR n Waiting v h = record { inv = faded is-over; stored = unmoved w h; short = omega arith; seen = λ e. over e }
+    inv-failsR n (TakesBasic size kept) v h = record { inv = faded is-over; stored = unmoved w h; short = omega arith; seen = λ e. over e }
+    inv-failsR n (Takes crc) v h = record { inv = faded is-over; stored = unmoved w h; short = omega arith; seen = λ e. over e }
+    inv-failsR n (Over e) v h = record { inv = faded is-over; stored = unmoved w h; short = omega arith; seen = λ e. over e }
+
+  -- what is on the way to a receiver that has not ended fits a frame
+  pub front-short : {o : Bool} {s : SenderState} {r : ReceiverState} {v : Option Saved} {lr ls : List (List ℕ)} {f : List ℕ} → Inv s r v (f ∷ lr) ls o
+      → receiverEnded r ≡ false → length f ≤ 256
+  front-short (good (g1 {m = m} x)) e = line-said w m x .in-frame
+  front-short (good (g3 q (frame d c r))) e = c .most
+  front-short (good (g4 x (frame d c r))) e = c .most
+  front-short (fades x at-rest) e = absurd (false≢true (sym e))
+  front-short (fades x (no-line stop-sent)) e = omega arith
+  front-short (fades x (a-line {m = m} y z)) e = line-said w m y .in-frame
+  front-short (fades x (frames stop-sent sent)) e = omega arith
+  front-short (fades x (frames z (frame d c r))) e = c .most
+  front-short (faded is-over) e = absurd (false≢true (sym e))

@@ -17,13 +17,13 @@ use Rattle.reader.specs.declared.Received.{Received}
 use Rattle.reader.specs.Reader.{checking, receive as reads}
 use Rattle.yapp.specs.declared.SenderState.{SenderState}
 use Rattle.yapp.specs.declared.ReceiverState.{ReceiverState}
-use Rattle.yapp.specs.Steps.{SenderMove, ReceiverMove, writes, senderTakes, senderTransmits, senderTimesOut, senderCancels, receiverTimesOut, receiverCancels}
+use Rattle.yapp.specs.Steps.{SenderMove, ReceiverMove, goes, writes, senderTakes, senderTransmits, senderTimesOut, senderCancels, receiverTimesOut, receiverCancels}
 use Rattle.yapp_core.specs.Core.{heard}
 use Rattle.transfers.specs.MachinesYapp.{receiverTakes}
 use Rattle.transfers.specs.World.{World}
-use Rattle.transfers.specs.Yapp.{Settings}
+use Rattle.transfers.specs.Yapp.{dataIn, Settings}
 use Rattle.transfers.proofs.Stored.{Stored, Stores, stays}
-use Rattle.transfers.proofs.YappPhases.{machine, join, fall, now, RestS, RestR, senderSet, receiverSet, Good, g0, g1, g2, g3, g4, g5, g6, g7, g8, g9, g10, Flight, Inv, good, fades, faded}
+use Rattle.transfers.proofs.YappPhases.{machine, join, fall, isRD, Sees, now, RestS, RestR, waitsR, endedR, senderSet, receiverSet, Good, g0, g1, g2, g3, g4, g5, g6, g7, g8, g9, g10, Flight, Inv, good, fades, faded}
 use Rattle.transfers.proofs.YappGood.{nextBlock, next-is, blockMove, good-transmitS, good-receiveS, good-receiveR}
 use Rattle.transfers.proofs.YappWire.{Formed, Word, All, all-nil, all-cons, Brief, quiet, brief-words, words-formed, word-rr, word-af, word-at, word-si, word-ef, block-formed, plain-writes, Encodes, encodes-join, remode, View, waits, takes, view}
 use Rattle.transfers.proofs.YappRest.{sender-unfinished, receiver-unfinished, unfinished-lays, reply-word, Rested, rest-take, rest-times, rest-stops, Still, still, flight-of, brief-takes, brief-times, brief-stops, Fading, fading-takes, fading-leaves, fading-times, fading-stops, quiet-leaves, good-times}
@@ -52,6 +52,17 @@ modes {n = n} m (inr a) e = remode n a e
 
 words-behind : {c : Content} {l : List Content} → All Word (c ∷ l) → All Word l
 words-behind (all-cons q a) = a
+
+-- a receiver at rest awaits no data
+rest-none : {st : ReceiverState} → RestR st → (c : Content) → dataIn (isRD st) c ≡ 0
+rest-none waitsR c = refl
+rest-none endedR c = refl
+
+-- part of a packet brings none
+pub none-yet : (b : Bool) → dataIn b unfinished ≡ 0
+unfolding machine
+none-yet true = refl
+none-yet false = refl
 
 module _ (w : World) (t : Settings) where
   -- what is in flight to the sender
@@ -112,11 +123,14 @@ module _ (w : World) (t : Settings) where
       → Brief (a .out) → Encodes rr br lr → Moved a sr rs rr v br bs false
   fade a sr f b e = fading (f .rest) (f .flight) (encodes-sent (a .checked) (a .out) e (plain-sends (brief-words b)))
 
-  -- the receiver moved, and has now the reader r and br on the way to it; area and tally are those before
-  pub record Came (st : SenderState) (sr : Reader) (bs : List ℕ) (o : Bool) (area : List ℕ) (tally : ℕ) (r : Reader) (br : List ℕ) (a : ReceiverMove) : Type 0 where
+  -- the receiver moved from rs in mode k, and has now the reader r and br on the way to it; area and tally are those before, and n bytes of the
+  -- file came
+  pub record Came (st : SenderState) (sr : Reader) (bs : List ℕ) (rs : ReceiverState) (k : Bool) (o : Bool) (area : List ℕ) (tally : ℕ) (r : Reader) (br : List ℕ)
+      (a : ReceiverMove) (n : ℕ) : Type 0 where
     pub inv : WInv st sr (a .state) (checking (a .checked) r) (a .saved) br (bs ++ writes (a .checked) (a .out)) o
-    pub stored : Stores w area (a .saved) (a .area) (tally - fall (a .out)) (a .stored)
+    pub stored : Stores w area (a .saved) (a .area) (tally - fall (a .out)) n
     pub brief : Brief (a .out)
+    pub seen : Sees k rs a
 
   module _ (st : SenderState) (sr : Reader) (rs : ReceiverState) (rr : Reader) (v : Option Saved) (br bs : List ℕ) where
     pub wire-leaves : {o : Bool} → WInv st sr rs rr v br bs o → Moved (senderTransmits (senderSet w t) (w .file) st (sr .checked)) sr rs rr v br bs o
@@ -159,47 +173,54 @@ module _ (w : World) (t : Settings) where
 
     -- ---- the receiver's moves
     module _ (area : List ℕ) (tally : ℕ) (h : Stored w v area tally) where
-      rested : {a : ReceiverMove} {r : Reader} {b : List ℕ} → Rested w t area tally (rr .checked) a → Came st sr bs false area tally r b a
-      rested y = record { inv = over (y .rest); stored = y .stored; brief = y .brief }
+      rested : {a : ReceiverMove} {r : Reader} {b : List ℕ} → Rested w t area tally rs (rr .checked) a → Came st sr bs rs (rr .checked) false area tally r b a 0
+      rested y = record { inv = over (y .rest); stored = y .stored; brief = y .brief; seen = y .seen }
 
-      pub wire-timesR : Came st sr bs false area tally rr br (receiverTimesOut (now rs (rr .checked) v) area rs)
+      pub wire-timesR : Came st sr bs rs (rr .checked) false area tally rr br (receiverTimesOut (now rs (rr .checked) v) area rs) 0
       wire-timesR = rested (rest-times w t area tally rs (rr .checked) v h)
 
-      pub wire-stopsR : Came st sr bs false area tally rr br (receiverCancels (now rs (rr .checked) v) area rs)
+      pub wire-stopsR : Came st sr bs rs (rr .checked) false area tally rr br (receiverCancels (now rs (rr .checked) v) area rs) 0
       wire-stopsR = rested (rest-stops w t area tally rs (rr .checked) v h)
 
       -- part of a packet
       nothing-yet : Stores w area v (receiverTakes (receiverSet w t) (now rs (rr .checked) v) area unfinished .area) (tally - 0) 0
       nothing-yet = stays w (rw sub-zero h) (unfinished-lays w (receiverSet w t) rs (rr .checked) v area (tally - 0))
 
+      silent : Sees (rr .checked) rs (goes (now rs (rr .checked) v) (receiverTakes (receiverSet w t) (now rs (rr .checked) v) area unfinished .area) rs [])
+      unfolding machine
+      silent = record { mode = refl; awaits = refl }
+
       came-good : {o : Bool} {lr ls : List Content} (g : Received) → g .reader .checked ≡ rr .checked → Good w t st (sr .checked) rs (rr .checked) v lr ls
           → Encodes sr bs ls → View br lr g
-          → Came st sr bs o area tally (g .reader) (drop (g .taken) br) (receiverTakes (receiverSet w t) (now rs (rr .checked) v) area (heard g))
+          → Came st sr bs rs (rr .checked) o area tally (g .reader) (drop (g .taken) br) (receiverTakes (receiverSet w t) (now rs (rr .checked) v) area (heard g)) (dataIn (isRD rs) (heard g))
       came-good g m p f (waits e x) =
-          rw (e, receiver-unfinished (receiverSet w t) rs (rr .checked) v area)
-          (record { inv = in-phase p (same-mode m x) (encodes-sent (rr .checked) [] f (plain-sends all-nil)); stored = nothing-yet; brief = quiet })
+          rw (e, receiver-unfinished (receiverSet w t) rs (rr .checked) v area, none-yet (isRD rs))
+          (record { inv = in-phase p (same-mode m x) (encodes-sent (rr .checked) [] f (plain-sends all-nil)); stored = nothing-yet; brief = quiet; seen = silent })
       came-good g m p f (takes {c = c} {l = l} e x) =
-          let y : Still w t area tally (rr .checked) (receiverTakes (receiverSet w t) (now rs (rr .checked) v) area c) l =
+          let y : Still w t area tally rs (rr .checked) (receiverTakes (receiverSet w t) (now rs (rr .checked) v) area c) l (dataIn (isRD rs) c) =
           still w t area tally (flight-of w t p) h in
           rw e
           (record {
             inv = in-phase (good-receiveR w t area tally p h) (modes m (y .mode) x) (encodes-sent _ _ f (plain-sends (brief-words (y .brief))));
             stored = y .stored;
             brief = y .brief;
+            seen = y .seen;
           })
 
       came-fading : {lr : List Content} (g : Received) → g .reader .checked ≡ rr .checked → RestS st → Flight w t rs v lr → View br lr g
-          → Came st sr bs false area tally (g .reader) (drop (g .taken) br) (receiverTakes (receiverSet w t) (now rs (rr .checked) v) area (heard g))
+          → Came st sr bs rs (rr .checked) false area tally (g .reader) (drop (g .taken) br) (receiverTakes (receiverSet w t) (now rs (rr .checked) v) area (heard g)) (dataIn (isRD rs) (heard g))
       came-fading g m q p (waits e x) =
-          rw (e, receiver-unfinished (receiverSet w t) rs (rr .checked) v area)
-          (record { inv = fading q p (same-mode m x); stored = nothing-yet; brief = quiet })
+          rw (e, receiver-unfinished (receiverSet w t) rs (rr .checked) v area, none-yet (isRD rs))
+          (record { inv = fading q p (same-mode m x); stored = nothing-yet; brief = quiet; seen = silent })
       came-fading g m q p (takes {c = c} {l = l} e x) =
-          let y : Still w t area tally (rr .checked) (receiverTakes (receiverSet w t) (now rs (rr .checked) v) area c) l = still w t area tally p h in
-          rw e (record { inv = fading q (y .flight) (modes m (y .mode) x); stored = y .stored; brief = y .brief })
+          let y : Still w t area tally rs (rr .checked) (receiverTakes (receiverSet w t) (now rs (rr .checked) v) area c) l (dataIn (isRD rs) c) =
+          still w t area tally p h in
+          rw e (record { inv = fading q (y .flight) (modes m (y .mode) x); stored = y .stored; brief = y .brief; seen = y .seen })
 
       pub wire-came : {o : Bool} (n : ℕ) → WInv st sr rs rr v br bs o
-          → Came st sr bs o area tally (reads rr (take n br) .reader) (drop (reads rr (take n br) .taken) br)
-          (receiverTakes (receiverSet w t) (now rs (rr .checked) v) area (heard (reads rr (take n br))))
+          → Came st sr bs rs (rr .checked) o area tally (reads rr (take n br) .reader) (drop (reads rr (take n br) .taken) br)
+          (receiverTakes (receiverSet w t) (now rs (rr .checked) v) area (heard (reads rr (take n br)))) (dataIn (isRD rs) (heard (reads rr (take n br))))
       wire-came n (in-phase g e f) = came-good (reads rr (take n br)) refl g f (view rr n br e)
       wire-came n (fading q x e) = came-fading (reads rr (take n br)) refl q x (view rr n br e)
-      wire-came n (over q) = rested (rest-take w t area tally (rr .checked) v (heard (reads rr (take n br))) q h)
+      wire-came n (over q) =
+          let c = heard (reads rr (take n br)) in rw (rest-none q c) (rested (rest-take w t area tally (rr .checked) v c q h))

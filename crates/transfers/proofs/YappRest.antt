@@ -4,7 +4,7 @@ use Prim.Native.Nat.{ℕ, _+_, _-_, _≤_}
 use mathlib.Core.Path.{_≡_, refl, sym}
 use mathlib.Core.Bool.{Bool, true, false}
 use mathlib.Core.List.{List, [], _∷_, _++_}
-use mathlib.Core.Option.{Option, none}
+use mathlib.Core.Option.{Option}
 use mathlib.Core.Logic.{_⊎_, inl, inr}
 use native.Mathlib.Omega.{arith}
 use lib.ListN.{length}
@@ -21,12 +21,12 @@ use Rattle.yapp.specs.declared.ReceiverState.{ReceiverState}
 use Rattle.yapp.specs.declared.ReceiverState.the-variants.{R, RH, RD, CW as RCW, Ended as REnded}
 use Rattle.yapp.specs.Rows
 use Rattle.yapp.specs.Rows.{Action, nothing, abort, refused, cancelled, success, leaves, answers, sendHeader, start, startChecked, resume, sendTrailer, ready, judge, second, store}
-use Rattle.yapp.specs.Steps.{SenderSettings, SenderMove, ReceiverSettings, ReceiverMove, sends, aborts, goes, fails, senderDoes, senderTakes, senderTransmits, senderTimesOut, senderCancels, receiverDoes, receiverTimesOut, receiverCancels}
+use Rattle.yapp.specs.Steps.{SenderSettings, SenderMove, ReceiverSettings, ReceiverMove, sends, aborts, goes, fails, accepts, senderDoes, senderTakes, senderTransmits, senderTimesOut, senderCancels, receiverDoes, receiverTimesOut, receiverCancels}
 use Rattle.transfers.specs.MachinesYapp.{receiverTakes}
 use Rattle.transfers.specs.World.{World, laidBy}
-use Rattle.transfers.specs.Yapp.{Settings}
+use Rattle.transfers.specs.Yapp.{dataIn, Settings}
 use Rattle.transfers.proofs.Stored.{Stored, Stores, mine, fits-saved, lays-none, unmoved, same, fallen, stored-more}
-use Rattle.transfers.proofs.YappPhases.{machine, join, fall, fallBy, now, called, again, Block, Dts, sent, block, Tail, silent, eof, trailer, stop, answer, RestS, waitsS, endedS, RestR, waitsR, endedR, senderSet, receiverSet, held, Reply, plainly, checking, resuming, Good, g0, g1, g2, g3, g4, g5, g6, g7, g8, g9, g10, Flight, resting, early, early-header, waiting, waiting-header, taking, whole, Inv, good, fades, faded}
+use Rattle.transfers.proofs.YappPhases.{machine, join, fall, fallBy, isRD, Sees, now, called, again, Block, Dts, sent, block, Tail, silent, eof, trailer, stop, answer, RestS, waitsS, endedS, RestR, waitsR, endedR, senderSet, receiverSet, held, Reply, plainly, checking, resuming, Good, g0, g1, g2, g3, g4, g5, g6, g7, g8, g9, g10, Flight, resting, early, early-header, waiting, waiting-header, taking, whole, Inv, good, fades, faded}
 use Rattle.transfers.proofs.YappGood.{dts-append, calling-append, calling-none, Accepts, accepted, Keeps, keeps, reply-within, take-header, take-data}
 use Rattle.transfers.proofs.YappWire.{Word, All, all-nil, all-cons, Brief, quiet, one, word-rr, word-rf, word-af, word-at, word-ca, word-rt, word-si, word-ef, word-et, word-cn, word-re, word-hd}
 
@@ -87,88 +87,106 @@ module _ (w : World) (t : Settings) where
   -- ---- the receiver
 
   module _ (area : List ℕ) (tally : ℕ) where
-    -- what a receiver at rest is after an answer
-    pub record Rested (b : Bool) (a : ReceiverMove) : Type 0 where
+    -- what a receiver that was in st is at rest after an answer: none of the file came
+    pub record Rested (st : ReceiverState) (b : Bool) (a : ReceiverMove) : Type 0 where
       pub rest : RestR (a .state)
       pub mode : a .checked ≡ b
-      pub stored : Stores w area (a .saved) (a .area) (tally - fall (a .out)) (a .stored)
+      pub stored : Stores w area (a .saved) (a .area) (tally - fall (a .out)) 0
       pub brief : Brief (a .out)
+      pub seen : Sees b st a
 
-    -- what any receiver is after an answer, with l in flight
-    pub record Still (b : Bool) (a : ReceiverMove) (l : List Content) : Type 0 where
+    -- what any receiver that was in st is after an answer, with l in flight; n bytes of the file came
+    pub record Still (st : ReceiverState) (b : Bool) (a : ReceiverMove) (l : List Content) (n : ℕ) : Type 0 where
       pub mode : (a .checked ≡ b) ⊎ All Word l
       pub flight : Flight w t (a .state) (a .saved) l
-      pub stored : Stores w area (a .saved) (a .area) (tally - fall (a .out)) (a .stored)
+      pub stored : Stores w area (a .saved) (a .area) (tally - fall (a .out)) n
       pub brief : Brief (a .out)
+      pub seen : Sees b st a
 
-    still-rests : {b : Bool} {a : ReceiverMove} {l : List Content} → Rested b a → Still b a l
-    still-rests r = record { mode = inl (r .mode); flight = resting (r .rest); stored = r .stored; brief = r .brief }
+    still-rests : {st : ReceiverState} {b : Bool} {a : ReceiverMove} {l : List Content} → Rested st b a → Still st b a l 0
+    still-rests r = record { mode = inl (r .mode); flight = resting (r .rest); stored = r .stored; brief = r .brief; seen = r .seen }
 
-    at-rest : {st : ReceiverState} {b : Bool} {v : Option Saved} {out : List Content} → RestR st → Brief out → fall out ≡ 0 → Stored w v area tally
-        → Rested b (goes (now st b v) area st out)
-    at-rest q o e h = record { rest = q; mode = refl; stored = rw e (same w h); brief = o }
+    at-rest : {was st : ReceiverState} {b : Bool} {v : Option Saved} {out : List Content} → RestR st → Brief out → fall out ≡ 0
+        → Sees b was (goes (now st b v) area st out) → Stored w v area tally → Rested was b (goes (now st b v) area st out)
+    at-rest q o e s h = record { rest = q; mode = refl; stored = rw e (same w h); brief = o; seen = s }
 
-    fell : {b : Bool} {v : Option Saved} (st : ReceiverState) (o : Outcome) → Stored w v area tally → Rested b (fails (now st b v) area o)
+    fell : {b : Bool} {v : Option Saved} (st : ReceiverState) (o : Outcome) → Stored w v area tally → Rested st b (fails (now st b v) area o)
     unfolding machine fallBy
-    fell st o h = at-rest waitsR (one word-cn) refl h
+    fell st o h = at-rest waitsR (one word-cn) refl (record { mode = refl; awaits = refl }) h
 
-    cancels : {b : Bool} {v : Option Saved} (o : Outcome) → Stored w v area tally → Rested b (goes (now (REnded o) b v) area (REnded o) (ca ∷ []))
+    cancels : {b : Bool} {v : Option Saved} (st : ReceiverState) (o : Outcome) → Stored w v area tally
+        → Rested st b (goes (now (REnded o) b v) area (REnded o) (ca ∷ []))
     unfolding machine fallBy
-    cancels o h = at-rest endedR (one word-ca) refl h
+    cancels st o h = at-rest endedR (one word-ca) refl (record { mode = refl; awaits = refl }) h
 
-    ends : {b : Bool} {v : Option Saved} → Stored w v area tally → Rested b (goes (now (REnded Success) b v) area (REnded Success) (at ∷ []))
+    ends : {b : Bool} {v : Option Saved} (st : ReceiverState) → Stored w v area tally
+        → Rested st b (goes (now (REnded Success) b v) area (REnded Success) (at ∷ []))
     unfolding machine fallBy
-    ends h = at-rest endedR (one word-at) refl h
+    ends st h = at-rest endedR (one word-at) refl (record { mode = refl; awaits = refl }) h
 
     rest-cw : (o : Outcome) (b : Bool) (v : Option Saved) (x y : Bool) (p : Parts) → Stored w v area tally
-        → Rested b (receiverDoes (receiverSet w t) (now (RCW o) b v) area (pick x leaves (pick y answers nothing)) p)
+        → Rested (RCW o) b (receiverDoes (receiverSet w t) (now (RCW o) b v) area (pick x leaves (pick y answers nothing)) p)
     unfolding machine fallBy
-    rest-cw o b v true y p h = at-rest endedR quiet refl h
-    rest-cw o b v false true p h = at-rest waitsR (one word-ca) refl h
-    rest-cw o b v false false p h = at-rest waitsR quiet refl h
+    rest-cw o b v true y p h = at-rest endedR quiet refl (record { mode = refl; awaits = refl }) h
+    rest-cw o b v false true p h = at-rest waitsR (one word-ca) refl (record { mode = refl; awaits = refl }) h
+    rest-cw o b v false false p h = at-rest waitsR quiet refl (record { mode = refl; awaits = refl }) h
 
     pub rest-take : {st : ReceiverState} (b : Bool) (v : Option Saved) (c : Content) → RestR st → Stored w v area tally
-        → Rested b (receiverTakes (receiverSet w t) (now st b v) area c)
+        → Rested st b (receiverTakes (receiverSet w t) (now st b v) area c)
     unfolding machine
     rest-take b v c (waitsR {o = o}) h = rest-cw o b v (eqb (partsOf c .kind) CA) (eqb (partsOf c .kind) CN) (partsOf c) h
-    rest-take b v c endedR h = at-rest endedR quiet refl h
+    rest-take b v c endedR h = at-rest endedR quiet refl (record { mode = refl; awaits = refl }) h
 
-    pub rest-times : (st : ReceiverState) (b : Bool) (v : Option Saved) → Stored w v area tally → Rested b (receiverTimesOut (now st b v) area st)
+    pub rest-times : (st : ReceiverState) (b : Bool) (v : Option Saved) → Stored w v area tally → Rested st b (receiverTimesOut (now st b v) area st)
     unfolding machine
     rest-times R b v h = fell R TimedOut h
     rest-times (RH x) b v h = fell (RH x) TimedOut h
     rest-times RD b v h = fell RD TimedOut h
-    rest-times (RCW o) b v h = at-rest endedR quiet refl h
-    rest-times (REnded o) b v h = at-rest endedR quiet refl h
+    rest-times (RCW o) b v h = at-rest endedR quiet refl (record { mode = refl; awaits = refl }) h
+    rest-times (REnded o) b v h = at-rest endedR quiet refl (record { mode = refl; awaits = refl }) h
 
-    pub rest-stops : (st : ReceiverState) (b : Bool) (v : Option Saved) → Stored w v area tally → Rested b (receiverCancels (now st b v) area st)
+    pub rest-stops : (st : ReceiverState) (b : Bool) (v : Option Saved) → Stored w v area tally → Rested st b (receiverCancels (now st b v) area st)
     unfolding machine
     rest-stops R b v h = fell R Stopped h
     rest-stops (RH x) b v h = fell (RH x) Stopped h
     rest-stops RD b v h = fell RD Stopped h
-    rest-stops (RCW o) b v h = at-rest waitsR quiet refl h
-    rest-stops (REnded o) b v h = at-rest endedR quiet refl h
+    rest-stops (RCW o) b v h = at-rest waitsR quiet refl (record { mode = refl; awaits = refl }) h
+    rest-stops (REnded o) b v h = at-rest endedR quiet refl (record { mode = refl; awaits = refl }) h
 
     -- a good or a fading phase
-    moves : {st : ReceiverState} {b : Bool} {v : Option Saved} {out l : List Content} → Brief out → fall out ≡ 0 → Flight w t st v l → Stored w v area tally
-        → Still b (goes (now st b v) area st out) l
-    moves o e f h = record { mode = inl refl; flight = f; stored = rw e (same w h); brief = o }
+    moves : {was st : ReceiverState} {b : Bool} {v : Option Saved} {out l : List Content} → Brief out → fall out ≡ 0
+        → Sees b was (goes (now st b v) area st out) → Flight w t st v l → Stored w v area tally → Still was b (goes (now st b v) area st out) l 0
+    moves o e s f h = record { mode = inl refl; flight = f; stored = rw e (same w h); brief = o; seen = s }
 
     take-eof : (b : Bool) (k : ℕ) (l : List Content) → Tail l → Stored w (held w t k) area tally
-        → Still b (receiverTakes (receiverSet w t) (now RD b (held w t k)) area ef) l
+        → Still RD b (receiverTakes (receiverSet w t) (now RD b (held w t k)) area ef) l 0
     unfolding machine fallBy
     take-eof b k l q h = go (eqb k (length (w .file)))
       where
-        go : (x : Bool) → Still b (pick x (goes (now RD b (held w t k)) area (RH true) (af ∷ [])) (fails (now RD b (held w t k)) area Short)) l
-        go true = moves (one word-af) refl (whole q) h
+        go : (x : Bool) → Still RD b (pick x (goes (now RD b (held w t k)) area (RH true) (af ∷ [])) (fails (now RD b (held w t k)) area Short)) l 0
+        go true = moves (one word-af) refl (record { mode = refl; awaits = refl }) (whole q) h
         go false = still-rests (fell RD Short h)
 
     kept-on : {p : ℕ} {x l : List Content} {b : Bool} {k : ℕ} {d : List ℕ} {a : ReceiverMove} → Keeps w t b k d area a → Stored w (held w t k) area tally
-        → Block (w .file) k d → Tail x → Dts (w .file) x (k + length d) p l → Still b a l
-    kept-on {d = d} keeps h e q r =
-        record { mode = inl refl; flight = taking q r; stored = stored-more w d h (e .fits) (e .is); brief = quiet }
+        → Block (w .file) k d → Tail x → Dts (w .file) x (k + length d) p l → Still RD b a l (length d)
+    unfolding machine
+    kept-on {d = d} keeps h e q r = record {
+      mode = inl refl;
+      flight = taking q r;
+      stored = stored-more w d h (e .fits) (e .is);
+      brief = quiet;
+      seen = record { mode = refl; awaits = refl };
+    }
 
-    taken : {c : Bool} {v : Option Saved} {l : List Content} {a : ReceiverMove} → Accepts w t area tally a → Stored w v area tally → Tail l → Still c a l
+    -- RF, RT or RE is sent
+    sees-reply : {st : ReceiverState} {c b : Bool} {k : ℕ} {q : Content} → Reply w t k b q → Sees c st (accepts area b (mine w (t .stamp) k) q)
+    unfolding machine
+    sees-reply plainly = record { mode = refl; awaits = refl }
+    sees-reply checking = record { mode = refl; awaits = refl }
+    sees-reply (resuming h) = record { mode = refl; awaits = refl }
+
+    taken : {st : ReceiverState} {c : Bool} {v : Option Saved} {l : List Content} {a : ReceiverMove} → Accepts w t area tally a → Stored w v area tally → Tail l
+        → Still st c a l 0
     taken (accepted {k = k} {q = p} r e) h q =
         let le : tally - fallBy p ≤ tally = omega arith in
         record {
@@ -177,34 +195,36 @@ module _ (w : World) (t : Settings) where
           stored = unmoved w (fallen w (mine w (t .stamp) k) (tally - fallBy p) le h
               (record { name = refl; size = refl; kept = reply-within w t r; stamp = fits-saved (t .stamp) (t .stamp-fits) }) e);
           brief = one (reply-word r);
+          seen = sees-reply r;
         }
 
     pub still : {st : ReceiverState} {b : Bool} {v : Option Saved} {c : Content} {l : List Content} → Flight w t st v (c ∷ l) → Stored w v area tally
-        → Still b (receiverTakes (receiverSet w t) (now st b v) area c) l
+        → Still st b (receiverTakes (receiverSet w t) (now st b v) area c) l (dataIn (isRD st) c)
     unfolding machine fallBy
-    still {b = b} {c = c} (resting {v = v} x) h = still-rests (rest-take b v c x h)
+    still {b = b} {c = c} (resting {v = v} (waitsR {o = o})) h = still-rests (rest-take b v c (waitsR {o = o}) h)
+    still {b = b} {c = c} (resting {v = v} (endedR {o = o})) h = still-rests (rest-take b v c (endedR {o = o}) h)
     still (early (eof q) called) h = still-rests (fell R Unexpected h)
     still (early (trailer q) called) h = still-rests (fell R Unexpected h)
-    still (early (stop q) called) h = still-rests (cancels _ h)
+    still (early (stop q) called) h = still-rests (cancels R _ h)
     still (early (answer q) called) h = still-rests (fell R Unexpected h)
-    still (early q (again c)) h = moves (one word-rr) refl (waiting q c) h
+    still (early q (again c)) h = moves (one word-rr) refl (record { mode = refl; awaits = refl }) (waiting q c) h
     still (early-header q called) h = still-rests (fell R Unexpected h)
-    still (early-header q (again c)) h = moves (one word-rr) refl (waiting-header q c) h
+    still (early-header q (again c)) h = moves (one word-rr) refl (record { mode = refl; awaits = refl }) (waiting-header q c) h
     still (waiting (eof q) called) h = still-rests (fell (RH false) Unexpected h)
-    still (waiting (trailer q) called) h = still-rests (ends h)
-    still (waiting (stop q) called) h = still-rests (cancels _ h)
+    still (waiting (trailer q) called) h = still-rests (ends (RH false) h)
+    still (waiting (stop q) called) h = still-rests (cancels (RH false) _ h)
     still (waiting (answer q) called) h = still-rests (fell (RH false) Unexpected h)
-    still (waiting q (again c)) h = moves quiet refl (waiting q c) h
+    still (waiting q (again c)) h = moves quiet refl (record { mode = refl; awaits = refl }) (waiting q c) h
     still {b = b} (waiting-header {v = v} q called) h = taken (take-header w t area tally b v h) h q
-    still (waiting-header q (again c)) h = moves quiet refl (waiting-header q c) h
+    still (waiting-header q (again c)) h = moves quiet refl (record { mode = refl; awaits = refl }) (waiting-header q c) h
     still {b = b} {l = l} (taking {k = k} (eof q) sent) h = take-eof b k l q h
     still (taking (trailer q) sent) h = still-rests (fell RD Unexpected h)
-    still (taking (stop q) sent) h = still-rests (cancels _ h)
+    still (taking (stop q) sent) h = still-rests (cancels RD _ h)
     still (taking (answer q) sent) h = still-rests (fell RD Unexpected h)
     still {b = b} (taking {k = k} q (block d e r)) h = kept-on (take-data w t area b k d (e .fits)) h e q r
     still (whole (eof q)) h = still-rests (fell (RH true) Unexpected h)
-    still (whole (trailer q)) h = still-rests (ends h)
-    still (whole (stop q)) h = still-rests (cancels _ h)
+    still (whole (trailer q)) h = still-rests (ends (RH true) h)
+    still (whole (stop q)) h = still-rests (cancels (RH true) _ h)
     still (whole (answer q)) h = still-rests (fell (RH true) Unexpected h)
 
   -- ---- the sender

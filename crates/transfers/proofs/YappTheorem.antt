@@ -1,7 +1,7 @@
 -- Demand 3 for one session by YAPP: what it leaves is again as it has to be, and without timers and stops, run to its end, it is complete.
 -- Assumes nothing.
 use Prim.Native.Nat.{ℕ, _+_, _-_, _≤_}
-use mathlib.Core.Path.{_≡_, refl, ap, sym, _∙_}
+use mathlib.Core.Path.{subst, _≡_, refl, ap, sym, _∙_}
 use mathlib.Core.Bool.{Bool, true, false, false≢true}
 use mathlib.Core.List.{List, [], _∷_, append-nil}
 use mathlib.Core.Option.{Option, none, some}
@@ -12,19 +12,24 @@ use lib.ListN.{length, take, drop, replicate, length-append, length-replicate}
 use lib.Seq.{take-append-seam, take-length}
 use lib.Dec.{ltb}
 use borrow.Author.Tests.{ltb-true, le-leb, le-ltb, eq-eqb}
+use Rattle.fields.specs.Pick.{pick}
 use Rattle.fields.specs.Buffer.{over}
 use Rattle.fields.specs.declared.Place.{Place}
 use Rattle.fields.proofs.Lists.{name-length}
 use Rattle.records.specs.Saved.{Saved, recordBytes}
-use Rattle.packets.specs.Content.{Content}
+use Rattle.packets.specs.Content.{Content, contentOf}
+use Rattle.packets.specs.Kind.{partsOf, look}
 use Rattle.reader.specs.declared.Reader.{Reader}
 use Rattle.reader.specs.declared.Received.{Received}
 use Rattle.reader.specs.Reader.{fresh as freshReader, receive as reads}
+use Rattle.spans.specs.Span.{spanAt}
+use Rattle.pending.specs.Pending.{feed}
 use Rattle.pending.proofs.Framing.{Waits}
 use Rattle.calls.specs.declared.Outcome.the-variants.{Success}
 use Rattle.calls.specs.declared.Status.{Status}
 use Rattle.calls.specs.declared.Status.the-variants.{Taken, Over, LongFrame, SmallReply, WrongLength}
-use Rattle.calls.specs.Checks.{checkOf}
+use Rattle.calls.specs.Checks.{checkOf, isTaken}
+use Rattle.calls.proofs.Laws.{check-taken}
 use Rattle.calls.specs.Saving.{savedBy, nameOf, keptOf}
 use Rattle.yapp.specs.declared.SenderState.{SenderState}
 use Rattle.yapp.specs.declared.SenderState.the-variants.{Ended}
@@ -32,35 +37,50 @@ use Rattle.yapp.specs.declared.ReceiverState.{ReceiverState}
 use Rattle.yapp.specs.declared.ReceiverState.the-variants.{R, Ended as REnded}
 use Rattle.yapp_sender.specs.declared.Sender.{Sender}
 use Rattle.yapp_receiver.specs.declared.Receiver.{Receiver}
-use Rattle.yapp.specs.Steps.{SenderSettings, SenderMove, ReceiverMove, writes, sends, senderTransmits, senderTimesOut, senderCancels, receiverTimesOut, receiverCancels, senderEnded, receiverEnded}
+use Rattle.yapp.specs.Steps.{SenderSettings, ReceiverSettings, SenderMove, ReceiverMove, writes, senderTransmits, senderTimesOut, senderCancels, receiverTimesOut, receiverCancels, senderEnded, receiverEnded}
 use Rattle.yapp_core.specs.Core.{nowhere, heard, shownIn}
 use Rattle.yapp_sender.specs.Sender.{SenderAfter, settingsOf, replied, arrived, refusedCall, statusOf, unlessRefused, begin, begunSender, transmit, receive, timeout, cancel}
 use Rattle.calls.specs.Saving.{formBy}
-use Rattle.yapp_receiver.specs.Receiver.{ReceiverAfter, settingsOf as settingsR, nowOf, replied as repliedR, refusedCall as refusedR, statusOf as statusR, unlessRefused as unlessR, receiverWith, fresh, withSaved, resumeBy, resume, transmit as transmitR′, timeout as timeoutR′, cancel as cancelR′}
-use Rattle.transfers.specs.MachinesYapp.{receiverTakes, receive as receiveR′}
-use Rattle.transfers.specs.World.{World, Left, Act, transmitS, timeoutS, cancelS, transmitR, timeoutR, cancelR, receiveS, receiveR, Call, lentOr, ours, savedBytes, laidBy, Calm, AllCalm}
-use Rattle.transfers.specs.Yapp.{Settings, Config, receiverBy, begins, stepS, stepR, made, statusIn, stepBy, step, runs, Fair, own, refused, Fairly, Quiet, Complete, leaves}
+use Rattle.yapp_receiver.specs.Receiver.{ReceiverAfter, settingsOf as settingsR, nowOf, replied as repliedR, refusedCall as refusedR, statusOf as statusR, unlessRefused as unlessR, receiverWith, fresh, withSaved, resumeBy, resume}
+use Rattle.transfers.specs.MachinesYapp.{receiverTakes, receive as receiveR′, transmit as transmitR′, timeout as timeoutR′, cancel as cancelR′}
+use Rattle.transfers.specs.World.{World, Left, Act, transmitS, timeoutS, cancelS, transmitR, timeoutR, cancelR, receiveS, receiveR, atSender, Call, lentOr, ours, savedBytes, laidBy, Calm, NoStop}
+use Rattle.transfers.specs.Yapp.{Settings, Watch, Config, receiverBy, begins, dataIn, cameBy, packetSent, OnePacket, seen, stepS, stepR, endedAt, ownAt, givenTo, checked, Made, bySender, byReceiver, made, stepBy, step, runs, Fair, own, refused, Fairly, Calmly, Quiet, Complete, workOf, statusIn, Observed, Serves, leaves}
 use Rattle.transfers.proofs.Stored.{Ours, Stored, Between, lays-none, ours-bytes, ours-back, name-back, saved-back, name-room, name-short}
-use Rattle.transfers.proofs.YappPhases.{machine, fall, called, again, sent, block, senderSet, receiverSet, Good, g0, g1, g2, g3, g4, g5, g6, g7, g8, g9, g10}
+use Rattle.transfers.proofs.YappPhases.{machine, fall, isRD, called, again, sent, block, senderSet, receiverSet, Good, g0, g1, g2, g3, g4, g5, g6, g7, g8, g9, g10}
 use Rattle.transfers.proofs.YappGood.{nextBlock, next-is, blockMove}
-use Rattle.transfers.proofs.YappWire.{Formed, word-si, word-ef, block-formed, writes-cons, some-bytes, fall-none, fall-is, Encodes, idle, encodes-quiet}
-use Rattle.transfers.proofs.YappBytes.{WInv, in-phase, Moved, Came, wire-leaves, wire-times, wire-stops, wire-heard, wire-timesR, wire-stopsR, wire-came}
+use Rattle.transfers.proofs.YappWire.{Formed, word-si, word-ef, block-formed, writes-cons, some-bytes, Brief, fall-none, fall-is, sent-parts, one-packet, Encodes, idle, encodes-quiet}
+use Rattle.transfers.proofs.YappBytes.{none-yet, WInv, in-phase, Moved, Came, wire-leaves, wire-times, wire-stops, wire-heard, wire-timesR, wire-stopsR, wire-came}
 
 -- the record that a receiver holds
-abbrev savedIn : Receiver → Option Saved
+abbrev pub savedIn : Receiver → Option Saved
 savedIn m = savedBy (m .core .keeping) (m .name)
 
 -- a buffer of zeros
-abbrev zeros : ℕ → List ℕ
+abbrev pub zeros : ℕ → List ℕ
 zeros n = replicate n 0
 
-zeros-length : (n : ℕ) → length (zeros n) ≡ n
+pub zeros-length : (n : ℕ) → length (zeros n) ≡ n
 zeros-length n = length-replicate {A = ℕ} n 0
 
 -- what is sent stands at the front of the reply buffer
-sent-is : (bs d : List ℕ) → take (length bs) (over 0 bs d) ≡ bs
+pub sent-is : (bs d : List ℕ) → take (length bs) (over 0 bs d) ≡ bs
 unfolding over
 sent-is bs d = take-append-seam bs (drop (0 + length bs) d)
+
+sent-whole : (k : Bool) {out : List Content} (reply : List ℕ) → Brief out → OnePacket (take (length (writes k out)) (over 0 (writes k out) reply))
+sent-whole k {out} reply b = rw (sent-is (writes k out) reply) (one-packet k b)
+
+-- with an empty chunk nothing comes, and where nothing is sent the observer sees nothing
+came-none : (o : Watch) → cameBy o [] ≡ 0
+unfolding feed contentOf partsOf
+came-none o = none-yet (o .awaits)
+
+none-came : (m : Receiver) → dataIn (isRD (m .core .state)) (heard (reads (m .reader) [])) ≡ 0
+none-came m = came-none (record { reader = m .reader; awaits = isRD (m .core .state) })
+
+seen-none : (o : Watch) → seen o [] (packetSent []) ≡ o
+unfolding feed spanAt contentOf partsOf look
+seen-none o = refl
 
 module _ (w : World) (t : Settings) where
   -- the settings stand in the two ends, and the invariant holds
@@ -71,25 +91,45 @@ module _ (w : World) (t : Settings) where
     pub inv : WInv w t (c .snd .core .state) (c .snd .reader) (c .rcv .core .state) (c .rcv .reader) (savedIn (c .rcv)) (c .toR) (c .toS) o
     pub kept : Stored w (savedIn (c .rcv)) (c .area) (c .tally)
     pub laid : c .area ≡ c .laid
+    pub watched : c .watch ≡ record { reader = c .rcv .reader; awaits = isRD (c .rcv .core .state) }
+
+  -- what a call with the check x does: fairly made it leaves what holds, it answers as it is checked, refused it changes nothing, and fairly
+  -- made it is seen whole by the observer
+  pub record Does (o : Bool) (c : Config) (lent handed : Option (List ℕ)) (x : Status) (m : Made w) : Type 0 where
+    pub keeps : Fair lent handed x → Holds o (stepBy w c lent m)
+    pub answers : statusIn w m ≡ x
+    pub unmoved : isTaken x ≡ false → (stepBy w c lent m ≡ c) × (workOf w m ≡ 0)
+    pub observed : Fair lent handed x → Observed w c m
 
   -- ---- a call that is refused changes nothing
-
-  same-S : (c : Config) (s : Status) (reply : List ℕ) → stepS c (refusedCall (c .snd) s reply) ≡ c
-  same-S c s reply = rw (append-nil (c .toR))
 
   lent-back : (area : List ℕ) (lent : Option (List ℕ)) → ours area (lentOr area lent) lent ≡ area
   lent-back area none = refl
   lent-back area (some l) = refl
 
-  same-R : (c : Config) (lent : Option (List ℕ)) (s : Status) (reply : List ℕ) → stepR w c lent (refusedR (c .rcv) s (lentOr (c .area) lent) reply) ≡ c
-  same-R c lent s reply = rw (append-nil (c .toS), fall-none, sub-zero (c .tally), add-zero (c .tally), lays-none w (c .tally) (c .laid), lent-back (c .area) lent)
+  same-R : (c : Config) (lent : Option (List ℕ)) (s : Status) (reply : List ℕ) → stepR w c lent (refusedR (c .rcv) s (lentOr (c .area) lent) reply) [] ≡ c
+  same-R c lent s reply =
+      rw (
+        append-nil (c .toS),
+        fall-none,
+        seen-none (c .watch),
+        came-none (c .watch),
+        sub-zero (c .tally),
+        add-zero (c .tally),
+        lays-none w (c .tally) (c .laid),
+        lent-back (c .area) lent,
+      )
 
   module _ {o : Bool} (c : Config) (h : Holds o c) where
-    refused-S : (s : Status) (reply : List ℕ) → Holds o (stepS c (refusedCall (c .snd) s reply))
-    refused-S s reply = rw (same-S c s reply) h
+    refused-S : (lent handed : Option (List ℕ)) (s : Status) (reply : List ℕ) → Does o c lent handed s (bySender (refusedCall (c .snd) s reply))
+    refused-S lent handed s reply =
+        record { keeps = λ f. rw (append-nil (c .toR)) h; answers = refl; unmoved = λ e. (rw (append-nil (c .toR)), refl); observed = λ f. tt }
 
-    refused-R : (lent : Option (List ℕ)) (s : Status) (reply : List ℕ) → Holds o (stepR w c lent (refusedR (c .rcv) s (lentOr (c .area) lent) reply))
-    refused-R lent s reply = rw (same-R c lent s reply) h
+    refused-R : (lent handed : Option (List ℕ)) (s : Status) (reply : List ℕ)
+        → Does o c lent handed s (byReceiver (refusedR (c .rcv) s (lentOr (c .area) lent) reply) [])
+    unfolding feed
+    refused-R lent handed s reply =
+        record { keeps = λ f. rw (same-R c lent s reply) h; answers = refl; unmoved = λ e. (same-R c lent s reply, refl); observed = λ f. (refl, inl refl) }
 
     -- ---- a call that is taken
 
@@ -98,57 +138,82 @@ module _ (w : World) (t : Settings) where
         → Holds p (stepS c (replied (c .snd) r taken shown a reply))
     moved-S r taken shown a reply i =
         rw (sent-is (writes (a .checked) (a .out)) reply)
-        (record { sender-set = h .sender-set; receiver-set = h .receiver-set; array = h .array; inv = i; kept = h .kept; laid = h .laid })
+        (record { sender-set = h .sender-set; receiver-set = h .receiver-set; array = h .array; inv = i; kept = h .kept; laid = h .laid; watched = h .watched })
 
-    moved-R : {p : Bool} (r : Reader) (taken : ℕ) (a : ReceiverMove) (reply : List ℕ)
-        → Came w t (c .snd .core .state) (c .snd .reader) (c .toS) p (c .area) (c .tally) r (drop taken (c .toR)) a
-        → Holds p (stepR w c none (repliedR (c .rcv) r taken a reply))
-    moved-R r taken a reply i =
-        let n = name-short w (a .saved) (i .stored .stored .ours) in
-        let b = saved-back (a .saved) (c .rcv .name) (h .array) n in
-        rw (sent-is (writes (a .checked) (a .out)) reply, fall-is (a .checked) (i .brief))
+    -- what the observer counts of a chunk
+    abbrev counts : List ℕ → ℕ
+    counts chunk = dataIn (isRD (c .rcv .core .state)) (heard (reads (c .rcv .reader) chunk))
+
+    -- the receiver moved, with the chunk
+    abbrev Arrives : Bool → List ℕ → ℕ → ReceiverMove → Type 0
+    Arrives p chunk taken a =
+        Came w t (c .snd .core .state) (c .snd .reader) (c .toS) (c .rcv .core .state) (c .rcv .reader .checked) p (c .area) (c .tally)
+        (reads (c .rcv .reader) chunk .reader) (drop taken (c .toR)) a (counts chunk)
+
+    moved-R : {p : Bool} (chunk : List ℕ) (taken : ℕ) (a : ReceiverMove) (reply : List ℕ) → Arrives p chunk taken a
+        → Holds p (stepR w c none (repliedR (c .rcv) (reads (c .rcv .reader) chunk .reader) taken a reply) chunk)
+    moved-R chunk taken a reply i =
+        let l = name-short w (a .saved) (i .stored .stored .ours) in
+        let b = saved-back (a .saved) (c .rcv .name) (h .array) l in
+        rw (sent-is (writes (a .checked) (a .out)) reply, fall-is (a .checked) (i .brief), sent-parts (a .checked) (i .brief), h .watched)
         (record {
           sender-set = h .sender-set;
           receiver-set = h .receiver-set;
-          array = name-room (nameOf (a .saved)) (c .rcv .name) (h .array) n;
+          array = name-room (nameOf (a .saved)) (c .rcv .name) (h .array) l;
           inv = rw b (i .inv);
           kept = rw b (i .stored .stored);
-          laid = i .stored .laid ∙ ap (laidBy w (c .tally - fall (a .out)) (a .stored)) (h .laid);
+          laid = i .stored .laid ∙ ap (laidBy w (c .tally - fall (a .out)) (counts chunk)) (h .laid);
+          watched = rw (i .seen .mode, i .seen .awaits);
         })
 
-    -- ---- by the status
+  -- ---- by the check: a is what the call answers if it is taken
 
-    by-status-S : (s : Status) (reply : List ℕ) (a : SenderAfter) → (s ≡ Taken → Holds o (stepS c a)) → Holds o (stepS c (unlessRefused s (c .snd) reply a))
-    by-status-S Taken reply a g = g refl
-    by-status-S Over reply a g = refused-S Over reply
-    by-status-S LongFrame reply a g = refused-S LongFrame reply
-    by-status-S SmallReply reply a g = refused-S SmallReply reply
-    by-status-S WrongLength reply a g = refused-S WrongLength reply
+  does-S : {o : Bool} (c : Config) (reply : List ℕ) (lent handed : Option (List ℕ)) (s : Status) {z : Status} (a : Option (List ℕ) → Option (List ℕ) → SenderAfter)
+      → s ≡ z → a lent handed .answer .status ≡ Taken → Holds o c → Holds o (stepS c (a none none))
+      → Does o c lent handed z (bySender (unlessRefused s (c .snd) reply (a lent handed)))
+  does-S {o} c reply lent handed s a e q h g = rw (← e) (go s)
+    where
+      served : (lent handed : Option (List ℕ)) → Fair lent handed Taken → Holds o (stepS c (a lent handed))
+      served _ _ own = g
+      served lent handed (refused x) = absurd (false≢true (sym x))
 
-    by-status-R : (s : Status) (lent : Option (List ℕ)) (reply : List ℕ) (a : ReceiverAfter) → (s ≡ Taken → Holds o (stepR w c lent a))
-        → Holds o (stepR w c lent (unlessR s (c .rcv) (lentOr (c .area) lent) reply a))
-    by-status-R Taken lent reply a g = g refl
-    by-status-R Over lent reply a g = refused-R lent Over reply
-    by-status-R LongFrame lent reply a g = refused-R lent LongFrame reply
-    by-status-R SmallReply lent reply a g = refused-R lent SmallReply reply
-    by-status-R WrongLength lent reply a g = refused-R lent WrongLength reply
+      go : (s : Status) → Does o c lent handed s (bySender (unlessRefused s (c .snd) reply (a lent handed)))
+      go Taken = record { keeps = served lent handed; answers = q; unmoved = λ x. absurd (false≢true (sym x)); observed = λ f. tt }
+      go Over = refused-S c h lent handed Over reply
+      go LongFrame = refused-S c h lent handed LongFrame reply
+      go SmallReply = refused-S c h lent handed SmallReply reply
+      go WrongLength = refused-S c h lent handed WrongLength reply
 
-  -- a call that is lent its own and handed what is on the way, or refused: a is what it answers if it is taken
-  by-serving-S : {o : Bool} (c : Config) (reply : List ℕ) {lent handed : Option (List ℕ)} (s : Status) {z : Status}
-      (a : Option (List ℕ) → Option (List ℕ) → SenderAfter) → Fair lent handed z → unlessRefused s (c .snd) reply (a lent handed) .answer .status ≡ z
-      → a lent handed .answer .status ≡ Taken → Holds o c → Holds o (stepS c (a none none))
-      → Holds o (stepS c (unlessRefused s (c .snd) reply (a lent handed)))
-  by-serving-S c reply s a own e q h g = by-status-S c h s reply (a none none) (λ x. g)
-  by-serving-S c reply {lent} {handed} s a (refused n) e q h g =
-      by-status-S c h s reply (a lent handed) (λ (x : s ≡ Taken). absurd (n (sym (rw x at e) ∙ q)))
+  -- chunk is what comes with it, nothing where it is refused
+  does-R : {o : Bool} (c : Config) (reply : List ℕ) (lent handed : Option (List ℕ)) (s : Status) {z : Status}
+      (a : Option (List ℕ) → Option (List ℕ) → ReceiverAfter) (chunk : Option (List ℕ) → Bool → List ℕ) → s ≡ z → a lent handed .answer .status ≡ Taken
+      → chunk handed false ≡ [] → Holds o c → Holds o (stepR w c none (a none none) (chunk none true)) → Observed w c (byReceiver (a none none) (chunk none true))
+      → Does o c lent handed z (byReceiver (unlessR s (c .rcv) (lentOr (c .area) lent) reply (a lent handed)) (chunk handed (isTaken z)))
+  does-R {o} c reply lent handed s a chunk e q y h g p = rw (← e) (go s)
+    where
+      served : (lent handed : Option (List ℕ)) → Fair lent handed Taken → Holds o (stepR w c lent (a lent handed) (chunk handed true))
+      served _ _ own = g
+      served lent handed (refused x) = absurd (false≢true (sym x))
 
-  by-serving-R : {o : Bool} (c : Config) (reply : List ℕ) {lent handed : Option (List ℕ)} (s : Status) {z : Status}
-      (a : Option (List ℕ) → Option (List ℕ) → ReceiverAfter) → Fair lent handed z
-      → unlessR s (c .rcv) (lentOr (c .area) lent) reply (a lent handed) .answer .status ≡ z → a lent handed .answer .status ≡ Taken → Holds o c
-      → Holds o (stepR w c none (a none none)) → Holds o (stepR w c lent (unlessR s (c .rcv) (lentOr (c .area) lent) reply (a lent handed)))
-  by-serving-R c reply s a own e q h g = by-status-R c h s none reply (a none none) (λ x. g)
-  by-serving-R c reply {lent} {handed} s a (refused n) e q h g =
-      by-status-R c h s lent reply (a lent handed) (λ (x : s ≡ Taken). absurd (n (sym (rw x at e) ∙ q)))
+      whole : (lent handed : Option (List ℕ)) → Fair lent handed Taken → Observed w c (byReceiver (a lent handed) (chunk handed true))
+      whole _ _ own = p
+      whole lent handed (refused x) = absurd (false≢true (sym x))
+
+      go : (s : Status) → Does o c lent handed s (byReceiver (unlessR s (c .rcv) (lentOr (c .area) lent) reply (a lent handed)) (chunk handed (isTaken s)))
+      go Taken = record { keeps = served lent handed; answers = q; unmoved = λ x. absurd (false≢true (sym x)); observed = whole lent handed }
+      go Over = rw y (refused-R c h lent handed Over reply)
+      go LongFrame = rw y (refused-R c h lent handed LongFrame reply)
+      go SmallReply = rw y (refused-R c h lent handed SmallReply reply)
+      go WrongLength = rw y (refused-R c h lent handed WrongLength reply)
+
+  -- the status of a call is document 01's check
+  pub status-S : {o : Bool} (c : Config) → Holds o c → (reply : List ℕ) (lent : Option (List ℕ))
+      → statusOf (c .snd) (lentOr (w .file) lent) reply ≡ checked w transmitS c reply lent
+  status-S c h reply lent = rw (ap (λ (s : SenderSettings). s .size) (h .sender-set))
+
+  pub status-R : {o : Bool} (c : Config) → Holds o c → (reply : List ℕ) (lent : Option (List ℕ))
+      → statusR (c .rcv) (lentOr (c .area) lent) reply ≡ checked w transmitR c reply lent
+  status-R c h reply lent = rw (ap (λ (s : ReceiverSettings). s .room) (h .receiver-set))
 
   -- ---- every call
 
@@ -181,6 +246,13 @@ module _ (w : World) (t : Settings) where
     abbrev hearsR : ℕ → List ℕ → Option (List ℕ) → Option (List ℕ) → ReceiverAfter
     hearsR n reply l x = arrivesR (reads (c .rcv .reader) (lentOr (take n (c .toR)) x)) reply l
 
+    -- what comes with it, if it is taken
+    abbrev hands : ℕ → Option (List ℕ) → Bool → List ℕ
+    hands n x taken = pick taken (lentOr (take n (c .toR)) x) []
+
+  abbrev hands-none : Option (List ℕ) → Bool → List ℕ
+  hands-none x taken = []
+
   module _ {o : Bool} (c : Config) (h : Holds o c) where
     leaves-S : (reply : List ℕ) → Holds o (stepS c (leavesS c reply none none))
     leaves-S reply = rw (h .sender-set) (moved-S c h (c .snd .reader) 0 nowhere _ reply (wire-leaves w t _ _ _ _ _ _ _ (h .inv)))
@@ -197,57 +269,105 @@ module _ (w : World) (t : Settings) where
     stops-S : (reply : List ℕ) → Holds false (stepS c (stopsS c reply none none))
     stops-S reply = moved-S c h (c .snd .reader) 0 nowhere _ reply (wire-stops w t _ _ _ _ _ _ _ (h .inv))
 
-    hears-R : (n : ℕ) (reply : List ℕ) → Holds o (stepR w c none (hearsR c n reply none none))
-    hears-R n reply =
-        let g = reads (c .rcv .reader) (take n (c .toR)) in
-        rw (h .receiver-set) (moved-R c h (g .reader) (g .taken) _ reply (wire-came w t _ _ _ _ _ _ _ (c .area) (c .tally) (h .kept) n (h .inv)))
+    came-R : (n : ℕ)
+        → Arrives c h o (take n (c .toR)) (reads (c .rcv .reader) (take n (c .toR)) .taken)
+        (receiverTakes (receiverSet w t) (nowOf (c .rcv)) (c .area) (heard (reads (c .rcv .reader) (take n (c .toR)))))
+    came-R n = wire-came w t _ _ _ _ _ _ _ (c .area) (c .tally) (h .kept) n (h .inv)
 
-    times-R : (reply : List ℕ) → Holds false (stepR w c none (timesR c reply none none))
-    times-R reply = moved-R c h (c .rcv .reader) 0 _ reply (wire-timesR w t _ _ _ _ _ _ _ (c .area) (c .tally) (h .kept))
+    times-R : Arrives c h false [] 0 (receiverTimesOut (nowOf (c .rcv)) (c .area) (c .rcv .core .state))
+    unfolding feed
+    times-R = rw (none-came (c .rcv)) (wire-timesR w t _ _ _ _ _ _ _ (c .area) (c .tally) (h .kept))
 
-    stops-R : (reply : List ℕ) → Holds false (stepR w c none (stopsR c reply none none))
-    stops-R reply = moved-R c h (c .rcv .reader) 0 _ reply (wire-stopsR w t _ _ _ _ _ _ _ (c .area) (c .tally) (h .kept))
+    stops-R : Arrives c h false [] 0 (receiverCancels (nowOf (c .rcv)) (c .area) (c .rcv .core .state))
+    unfolding feed
+    stops-R = rw (none-came (c .rcv)) (wire-stopsR w t _ _ _ _ _ _ _ (c .area) (c .tally) (h .kept))
 
     pub calm-step : (act : Act) (reply : List ℕ) (lent handed : Option (List ℕ)) → Calm act
-        → Fair lent handed (statusIn w (made w act c reply lent handed)) → Holds o (stepBy w c lent (made w act c reply lent handed))
+        → Does o c lent handed (checked w act c reply lent) (made w act c reply lent handed)
     unfolding transmit receive transmitR′ receiveR′
-    calm-step transmitS reply lent handed q f =
-        by-serving-S c reply (statusOf (c .snd) (lentOr (w .file) lent) reply) (leavesS c reply) f refl refl h (leaves-S reply)
-    calm-step (receiveS n) reply lent handed q f =
-        by-serving-S c reply (statusOf (c .snd) (lentOr (w .file) lent) reply) (hearsS c n reply) f refl refl h (hears-S n reply)
-    calm-step timeoutS reply lent handed q f = absurd q
-    calm-step cancelS reply lent handed q f = absurd q
-    calm-step transmitR reply lent handed q f = refused-R c h lent (statusR (c .rcv) (lentOr (c .area) lent) reply) reply
-    calm-step (receiveR n) reply lent handed q f =
-        by-serving-R c reply (statusR (c .rcv) (lentOr (c .area) lent) reply) (hearsR c n reply) f refl refl h (hears-R n reply)
-    calm-step timeoutR reply lent handed q f = absurd q
-    calm-step cancelR reply lent handed q f = absurd q
+    calm-step transmitS reply lent handed q =
+        does-S c reply lent handed (statusOf (c .snd) (lentOr (w .file) lent) reply) (leavesS c reply) (status-S c h reply lent) refl h (leaves-S reply)
+    calm-step (receiveS n) reply lent handed q =
+        does-S c reply lent handed (statusOf (c .snd) (lentOr (w .file) lent) reply) (hearsS c n reply) (status-S c h reply lent) refl h (hears-S n reply)
+    calm-step timeoutS reply lent handed q = absurd q
+    calm-step cancelS reply lent handed q = absurd q
+    calm-step transmitR reply lent handed q =
+        rw (← (status-R c h reply lent)) (refused-R c h lent handed (statusR (c .rcv) (lentOr (c .area) lent) reply) reply)
+    calm-step (receiveR n) reply lent handed q =
+        does-R c reply lent handed (statusR (c .rcv) (lentOr (c .area) lent) reply) (hearsR c n reply) (hands c n) (status-R c h reply lent) refl refl h
+        (rw (h .receiver-set) (moved-R c h (take n (c .toR)) (reads (c .rcv .reader) (take n (c .toR)) .taken) _ reply (came-R n)))
+        (rw (h .watched, h .receiver-set) (refl, sent-whole _ reply (came-R n .brief)))
+    calm-step timeoutR reply lent handed q = absurd q
+    calm-step cancelR reply lent handed q = absurd q
 
   pub any-step : (c : Config) → Holds false c → (act : Act) (reply : List ℕ) (lent handed : Option (List ℕ))
-      → Fair lent handed (statusIn w (made w act c reply lent handed)) → Holds false (stepBy w c lent (made w act c reply lent handed))
-  unfolding timeout cancel timeoutR′ cancelR′
-  any-step c h transmitS reply lent handed f = calm-step c h transmitS reply lent handed tt f
-  any-step c h (receiveS n) reply lent handed f = calm-step c h (receiveS n) reply lent handed tt f
-  any-step c h timeoutS reply lent handed f =
-      by-serving-S c reply (statusOf (c .snd) (lentOr (w .file) lent) reply) (timesS c reply) f refl refl h (times-S c h reply)
-  any-step c h cancelS reply lent handed f =
-      by-serving-S c reply (statusOf (c .snd) (lentOr (w .file) lent) reply) (stopsS c reply) f refl refl h (stops-S c h reply)
-  any-step c h transmitR reply lent handed f = calm-step c h transmitR reply lent handed tt f
-  any-step c h (receiveR n) reply lent handed f = calm-step c h (receiveR n) reply lent handed tt f
-  any-step c h timeoutR reply lent handed f =
-      by-serving-R c reply (statusR (c .rcv) (lentOr (c .area) lent) reply) (timesR c reply) f refl refl h (times-R c h reply)
-  any-step c h cancelR reply lent handed f =
-      by-serving-R c reply (statusR (c .rcv) (lentOr (c .area) lent) reply) (stopsR c reply) f refl refl h (stops-R c h reply)
+      → Does false c lent handed (checked w act c reply lent) (made w act c reply lent handed)
+  unfolding timeout cancel timeoutR′ cancelR′ feed
+  any-step c h transmitS reply lent handed = calm-step c h transmitS reply lent handed tt
+  any-step c h (receiveS n) reply lent handed = calm-step c h (receiveS n) reply lent handed tt
+  any-step c h timeoutS reply lent handed =
+      does-S c reply lent handed (statusOf (c .snd) (lentOr (w .file) lent) reply) (timesS c reply) (status-S c h reply lent) refl h (times-S c h reply)
+  any-step c h cancelS reply lent handed =
+      does-S c reply lent handed (statusOf (c .snd) (lentOr (w .file) lent) reply) (stopsS c reply) (status-S c h reply lent) refl h (stops-S c h reply)
+  any-step c h transmitR reply lent handed = calm-step c h transmitR reply lent handed tt
+  any-step c h (receiveR n) reply lent handed = calm-step c h (receiveR n) reply lent handed tt
+  any-step c h timeoutR reply lent handed =
+      does-R c reply lent handed (statusR (c .rcv) (lentOr (c .area) lent) reply) (timesR c reply) hands-none (status-R c h reply lent) refl refl h
+      (moved-R c h [] 0 _ reply (times-R c h))
+      (refl, sent-whole _ reply (times-R c h .brief))
+  any-step c h cancelR reply lent handed =
+      does-R c reply lent handed (statusR (c .rcv) (lentOr (c .area) lent) reply) (stopsR c reply) hands-none (status-R c h reply lent) refl refl h
+      (moved-R c h [] 0 _ reply (stops-R c h))
+      (refl, sent-whole _ reply (stops-R c h .brief))
+
+  -- ---- served
+
+  module _ {o : Bool} (c : Config) (h : Holds o c) where
+    own-length : (s : Bool) → length (pick s (w .file) (c .area)) ≡ pick s (length (w .file)) (length (w .area))
+    own-length true = refl
+    own-length false = h .kept .room
+
+    pub check-takes : (act : Act) (reply : List ℕ) → endedAt w act c ≡ false → 259 ≤ length reply → checked w act c reply none ≡ Taken
+    check-takes act reply e l = check-taken (length reply) 0 (length (ownAt w act c)) (givenTo w act) e l (omega arith) (own-length (atSender act))
+
+  serves : (c : Config) → Holds false c → Serves w c
+  serves c h = record {
+    as-checked = λ k. any-step c h (k .act) (k .reply) (k .lent) (k .handed) .answers;
+    refused = λ k. any-step c h (k .act) (k .reply) (k .lent) (k .handed) .unmoved;
+    taken = λ act reply e l. any-step c h act reply none none .answers ∙ check-takes c h act reply e l;
+    observed = λ k. any-step c h (k .act) (k .reply) (k .lent) (k .handed) .observed;
+  }
 
   -- ---- every list of calls
 
   any-run : (ks : List Call) (c : Config) → Fairly w ks c → Holds false c → Holds false (runs w ks c)
   any-run [] c f h = h
-  any-run (k ∷ ks) c f h = any-run ks (step w k c) (f .1) (any-step c h (k .act) (k .reply) (k .lent) (k .handed) (f .0))
+  any-run (k ∷ ks) c f h = any-run ks (step w k c) (f .1) (any-step c h (k .act) (k .reply) (k .lent) (k .handed) .keeps (f .0))
 
-  calm-run : (ks : List Call) (c : Config) → AllCalm ks → Fairly w ks c → Holds true c → Holds true (runs w ks c)
+  -- a timer or a stop that is refused changes nothing
+  loosen-inv : {st : SenderState} {sr : Reader} {rs : ReceiverState} {rr : Reader} {v : Option Saved} {br bs : List ℕ} → WInv w t st sr rs rr v br bs true
+      → WInv w t st sr rs rr v br bs false
+  loosen-inv (in-phase g e f) = in-phase g e f
+
+  pub loosen : (c : Config) → Holds true c → Holds false c
+  loosen c h = record {
+    sender-set = h .sender-set;
+    receiver-set = h .receiver-set;
+    array = h .array;
+    inv = loosen-inv (h .inv);
+    kept = h .kept;
+    laid = h .laid;
+    watched = h .watched;
+  }
+
+  pub calm-call : (c : Config) (k : Call) → Holds true c → Fair (k .lent) (k .handed) (checked w (k .act) c (k .reply) (k .lent))
+      → NoStop (k .act) (checked w (k .act) c (k .reply) (k .lent)) → Holds true (step w k c)
+  calm-call c k h f (inl q) = calm-step c h (k .act) (k .reply) (k .lent) (k .handed) q .keeps f
+  calm-call c k h f (inr e) = subst (Holds true) (sym (any-step c (loosen c h) (k .act) (k .reply) (k .lent) (k .handed) .unmoved e .0)) h
+
+  pub calm-run : (ks : List Call) (c : Config) → Calmly w ks c → Fairly w ks c → Holds true c → Holds true (runs w ks c)
   calm-run [] c q f h = h
-  calm-run (k ∷ ks) c q f h = calm-run ks (step w k c) (q .1) (f .1) (calm-step c h (k .act) (k .reply) (k .lent) (k .handed) (q .0) (f .0))
+  calm-run (k ∷ ks) c q f h = calm-run ks (step w k c) (q .1) (f .1) (calm-call c k h (f .0) (q .0))
 
   -- ---- the beginning: neither end is refused
 
@@ -278,6 +398,7 @@ module _ (w : World) (t : Settings) where
     area = l .area;
     toR = [];
     toS = [];
+    watch = record { reader = freshReader false; awaits = false };
     tally = l .tally;
     laid = l .laid;
   }
@@ -296,9 +417,10 @@ module _ (w : World) (t : Settings) where
         inv = in-phase g0 (idle fresh-waits refl) (idle fresh-waits refl);
         kept = rw (saved-back v (zeros 64) a n) h;
         laid = e;
+        watched = refl;
       }
 
-  begun : {o : Bool} (l : Left) → Between w l → Holds o (begins w t l)
+  pub begun : {o : Bool} (l : Left) → Between w l → Holds o (begins w t l)
   begun l b =
       rw (sender-begins, b .bytes, receiver-begins (length (w .area)) (t .checks) (w .fits) (b .saved) (b .stored .ours))
       (opened-holds (b .saved) l (b .stored) (b .laid))
@@ -388,6 +510,10 @@ yapp-safe w t ks l b f =
     record { saved = savedIn (runs w ks (begins w t l) .rcv); stored = h .kept; bytes = refl; laid = h .laid }
 
 -- COMPLETION, without timers and stops, run to its end
-pub yapp-complete : (w : World) (t : Settings) (ks : List Call) (l : Left) → Between w l → Fairly w ks (begins w t l) → AllCalm ks
+pub yapp-complete : (w : World) (t : Settings) (ks : List Call) (l : Left) → Between w l → Fairly w ks (begins w t l) → Calmly w ks (begins w t l)
     → Quiet w (runs w ks (begins w t l)) → Complete w (runs w ks (begins w t l))
 yapp-complete w t ks l b f q z = complete w t (runs w ks (begins w t l)) (calm-run w t ks (begins w t l) q f (begun w t l b)) z
+
+-- SERVED, after any calls
+pub yapp-served : (w : World) (t : Settings) (ks : List Call) (l : Left) → Between w l → Fairly w ks (begins w t l) → Serves w (runs w ks (begins w t l))
+yapp-served w t ks l b f = serves w t (runs w ks (begins w t l)) (any-run w t ks (begins w t l) f (begun w t l b))
