@@ -232,7 +232,7 @@ module _ (w : World) where
   statusIn (bySender a) = a .answer .status
   statusIn (byReceiver a chunk) = a .answer .status
 
-  -- the observer sees all of it: the receiver takes as many bytes as his reader, and sends nothing or one whole packet
+  -- the observer sees all of it: the receiver takes as many bytes as the observer's reader, and sends nothing or one whole packet
   abbrev pub Observed : Config → Made → Type 0
   Observed c (bySender a) = Unit {0}
   Observed c (byReceiver a chunk) = (a .answer .taken ≡ reads (c .watch .reader) chunk .taken) × OnePacket (take (a .answer .sent) (a .reply))
