@@ -13,8 +13,7 @@ use Rattle.fields.specs.Pick.{pick}
 use Rattle.fields.specs.Buffer.{over}
 use Rattle.records.specs.Saved.{Saved}
 use Rattle.calls.specs.declared.Outcome.the-variants.{Success}
-use Rattle.calls.specs.declared.Status.{Status}
-use Rattle.calls.specs.declared.Status.the-variants.{Taken, Over, LongFrame, SmallReply, WrongLength}
+use Rattle.calls.specs.declared.Status.the-variants.{Taken}
 use Rattle.calls.specs.Checks.{checkOf, isTaken}
 use Rattle.bin.specs.declared.SenderState.{SenderState}
 use Rattle.bin.specs.declared.SenderState.the-variants.{Start, Wait, Send, Ended}
@@ -24,7 +23,8 @@ use Rattle.bin_sender.specs.Sender as sender
 use Rattle.bin_receiver.specs.Receiver as receiver
 use Rattle.transfers.specs.MachinesBin.{cut, senderTransmits, transmit, receiverTakes, receive}
 use Rattle.transfers.specs.World.{World, Left, Act, transmitS, timeoutS, cancelS, transmitR, timeoutR, cancelR, receiveS, receiveR, Call, Calm, NoStop}
-use Rattle.transfers.specs.Bin.{Settings, Config, begins, joins, front, behindFront, checked, made, stepBy, runs, Fair, own, refused, Fairly, Calmly, Quiet, workOf, workIn, work, ComesToEnd}
+use Rattle.transfers.specs.Bin.{Settings, Config, begins, joins, front, behindFront, checked, made, stepBy, runs, Fair, refused, Fairly, Calmly, Quiet, workOf, workIn, work, ComesToEnd}
+use Rattle.transfers.proofs.Calls.{by-check, by-fair}
 use Rattle.transfers.proofs.Stored.{Between}
 use Rattle.transfers.proofs.BinFrames.{cuts, sentTo, sent-one, line-said}
 use Rattle.transfers.proofs.BinGood.{sent, frame, Good, g0, g1, g2, g3, g4, some-left, all-there, lineFrame, ourRoom, ourSender, ok-some, ok-read}
@@ -42,20 +42,6 @@ sent-more l out reply = joins-more l (take (length (joined out)) (over 0 (joined
 behind-most : (l : List (List ℕ)) → length (behindFront l) ≤ length l
 behind-most [] = omega arith
 behind-most (f ∷ l) = omega arith
-
--- a call is refused or taken
-by-check : {P : Type 0} (x : Status) → (isTaken x ≡ false → P) → (x ≡ Taken → P) → P
-by-check Taken r h = h refl
-by-check Over r h = r refl
-by-check LongFrame r h = r refl
-by-check SmallReply r h = r refl
-by-check WrongLength r h = r refl
-
--- a call that is fairly made is refused, or gets its own file or area and what is on the way
-by-fair : (P : Option (List ℕ) → Option (List ℕ) → Type 0) {lent handed : Option (List ℕ)} {x : Status} → Fair lent handed x
-    → (isTaken x ≡ false → P lent handed) → P none none → P lent handed
-by-fair P own r h = h
-by-fair P (refused e) r h = r e
 
 module _ (w : World) (t : Settings) where
   -- how many frames the sender has still to send, at most: the line, and one for each byte

@@ -39,8 +39,9 @@ use Rattle.calls.specs.Saving.{formBy}
 use Rattle.transfers.specs.MachinesBin.{senderTransmits, transmit, receiverTakes, receive}
 use Rattle.transfers.specs.World.{World, Left, Act, transmitS, timeoutS, cancelS, transmitR, timeoutR, cancelR, receiveS, receiveR, Call, lentOr, ours, savedBytes, laidBy, Calm, NoStop}
 use Rattle.transfers.specs.Bin.{Settings, Config, receiverBy, begins, front, behindFront, acceptedBy, fileIn, stepS, stepR, endedAt, checked, Made, bySender, byReceiver, made, stepBy, step, runs, Fair, own, refused, Fairly, Calmly, Quiet, Complete, workOf, statusIn, Serves, leaves}
+use Rattle.transfers.proofs.Calls.{sent-is, lent-back}
 use Rattle.transfers.proofs.Stored.{Ours, Stored, Between, lays-none, ours-form, ours-back, name-back, saved-back, name-room, name-short}
-use Rattle.transfers.proofs.BinFrames.{cuts, sentTo, written, Short, short-sent, line-said}
+use Rattle.transfers.proofs.BinFrames.{cuts, sentTo, Short, short-sent, line-said}
 use Rattle.transfers.proofs.BinGood.{sent, frame, isTaking, Good, g0, g1, g2, g3, g4, some-left, all-there, Inv, good, ourRoom, ourSender, inv-leaves, inv-takesS, inv-failsS, TakenOn, inv-takesR, inv-nothing, inv-failsR, front-short}
 
 -- ---- the two structs in a session
@@ -84,10 +85,6 @@ module _ (w : World) (t : Settings) where
   Serving b a c =
       (reply : List ℕ) (lent handed : Option (List ℕ)) → Does b c lent handed (checked w a c reply lent handed) (made w a c reply lent handed)
 
-  back : (area : List ℕ) (lent : Option (List ℕ)) → ours area (lentOr area lent) lent ≡ area
-  back area none = refl
-  back area (some l) = refl
-
   module _ {o : Bool} {s : SenderState} {r : ReceiverState} {v : Option Saved} {arr area : List ℕ} {lr ls : List (List ℕ)} {acc : Bool} {tally : ℕ} {laid : List ℕ}
       (n : Now o s r v arr area lr ls acc tally laid) where
     abbrev now : Config
@@ -109,9 +106,9 @@ module _ (w : World) (t : Settings) where
         → Does o now lent handed x (byReceiver (receiver.refusedCall (receiverAt w r v arr) x (lentOr area lent) reply) left came)
     unfolding starts same
     refused-R lent handed x reply left came q z = record {
-      keeps = λ f. rw (q, z, back area lent, add-zero tally, lays-none w tally laid) (holds n);
+      keeps = λ f. rw (q, z, lent-back area lent, add-zero tally, lays-none w tally laid) (holds n);
       answers = refl;
-      unmoved = λ e. (rw (q, z, back area lent, add-zero tally, lays-none w tally laid), rw q (omega arith));
+      unmoved = λ e. (rw (q, z, lent-back area lent, add-zero tally, lays-none w tally laid), rw q (omega arith));
     }
 
     -- a call at the sender, which moves by the frame that is handed over and the file that is lent; left is what it leaves on the way, all of
@@ -155,7 +152,7 @@ module _ (w : World) (t : Settings) where
               stored = j .stored .stored;
               account = j .stored .laid ∙ ap (laidBy w tally (came none true)) (n .account);
               short = short-sent ls (move none area .out) reply (j .short) (n .short);
-              watched = λ e. rw (written (joined (move none area .out)) reply, n .watched (y refl)) (j .seen e);
+              watched = λ e. rw (sent-is (joined (move none area .out)) reply, n .watched (y refl)) (j .seen e);
             })
         go lent handed (refused x) = absurd (false≢true (sym x))
     receiver-call move shown left came reply lent handed Over q z y k = refused-R lent handed Over reply (left false) (came handed false) q z

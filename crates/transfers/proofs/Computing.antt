@@ -27,8 +27,6 @@ use Rattle.yapp_receiver.specs.Receiver as yreceiver
 use Rattle.bin.specs.Steps as bsteps
 use Rattle.bin_sender.specs.Sender as bsender
 use Rattle.bin_receiver.specs.Receiver as breceiver
-use Rattle.yapp_sender.specs.declared.Sender.{Sender as YappSender}
-use Rattle.yapp_receiver.specs.declared.Receiver.{Receiver as YappReceiver}
 use Rattle.bin_sender.specs.declared.Sender.{Sender}
 use Rattle.bin_receiver.specs.declared.Receiver.{Receiver}
 use Rattle.transfers.specs.World.{Act, receiveR, Call}
@@ -59,14 +57,6 @@ abbrev pub other : Call
 other = record { act = receiveR 300; reply = replicate 259 0; lent = some (8 ∷ 8 ∷ []); handed = none }
 
 -- a leave sends nothing: an ended sender refuses it, and a receiver sends nothing at any
-pub silent-yapp-S : (m : YappSender) (own reply : List ℕ) → ysteps.senderEnded (m .core .state) ≡ true → ysender.transmit m own reply .answer .sent ≡ 0
-unfolding ysender.transmit checkOf
-silent-yapp-S m own reply e = rw e refl
-
-pub silent-yapp-R : (m : YappReceiver) (own reply : List ℕ) → yends.transmit m own reply .answer .sent ≡ 0
-unfolding yends.transmit
-silent-yapp-R m own reply = refl
-
 pub silent-S : (m : Sender) (own reply : List ℕ) → bsteps.senderEnded (m .core .state) ≡ true → bends.transmit m own reply .answer .sent ≡ 0
 unfolding bends.transmit checkOf
 silent-S m own reply e = rw e refl

@@ -24,7 +24,7 @@ use Rattle.bin.specs.declared.ReceiverState.the-variants.{Extended as Takes, En
 use Rattle.transfers.specs.World.{World, Bytes, Left, first, Safe, keptIn, Act, transmitS, receiveS, receiveR, Call}
 use Rattle.transfers.specs.Yapp as yapp
 use Rattle.transfers.specs.Bin as bin
-use Rattle.transfers.specs.Demand.{Session, byYapp, byBin, leavesBy, after, FairIn, FairAll, Ends, Completes}
+use Rattle.transfers.specs.Demand.{Session, byYapp, byBin, leavesBy, after, FairIn, FairAll, CalmIn, Ends, Completes}
 use Rattle.transfers.proofs.Computing.{opened, named, made, long, other, silent-S, silent-R}
 
 -- ---- the world
@@ -167,11 +167,14 @@ stands s r kept n = record {
 }
 
 -- the line is accepted: the CRC of the file is 39340
-accepted3 : bin.runs w (calling announcing) (bin.begins w settingsB fallen) ≡ stands (Send 0) (Takes 39340) 0 256
+abbrev accepted : bin.Config
+accepted = stands (Send 0) (Takes 39340) 0 256
+
+accepted3 : bin.runs w (calling announcing) (bin.begins w settingsB fallen) ≡ accepted
 unfolding opened
 accepted3 = refl
 
-moved3 : bin.runs w sending (stands (Send 0) (Takes 39340) 0 256) ≡ stands (Sent Success) (Received Success) 266 266
+moved3 : bin.runs w sending accepted ≡ stands (Sent Success) (Received Success) 266 266
 unfolding opened
 moved3 = refl
 
@@ -231,9 +234,6 @@ fairlyB (a ∷ acts) ls c f = (bin.own, fairlyB acts ls (bin.step w (made a) c) 
 abbrev greeted : yapp.Config
 greeted = yapp.runs w (calling greeting) (yapp.begins w (settingsY true) (first w))
 
-abbrev accepted : bin.Config
-accepted = stands (Send 0) (Takes 39340) 0 256
-
 other-refused : isTaken (yapp.checked w (other .act) greeted (other .reply) (other .lent)) ≡ false
 unfolding opened
 other-refused = refl
@@ -268,6 +268,10 @@ fair = (
   fair1,
   (ownedY greeting (yapp.begins w (settingsY false) (leavesBy w session1 (first w))), (subst (FairIn w session3) (sym after2) fair3, tt)),
 )
+
+-- no call of the last session is a timer or a stop
+pub calm : CalmIn w session3 fallen
+calm = (inl tt, (inl tt, (inl tt, (inl tt, (inl tt, (inl tt, (inl tt, (inl tt, (inl tt, (inl tt, (inl tt, (inl tt, (inl tt, tt)))))))))))))
 
 -- ---- the last session is run to its end, and has succeeded
 

@@ -1,13 +1,13 @@
 -- A session by YAPP that has had no timer and no stop comes to its end: every byte that is sent or taken brings it nearer.
 -- Assumes nothing.
-use Prim.Native.Nat.{ℕ, zero, suc, _+_, _-_, _*_, _≤_, _<_}
-use mathlib.Core.Path.{_≡_, refl, ap, _∙_}
+use Prim.Native.Nat.{ℕ, _+_, _-_, _*_, _≤_}
+use mathlib.Core.Path.{_≡_, refl, _∙_}
 use mathlib.Core.Bool.{Bool, true, false}
 use mathlib.Core.List.{List, [], _∷_, append-nil}
 use mathlib.Core.Option.{Option, none}
 use mathlib.Core.Logic.{_⊎_, inl, inr}
 use native.Mathlib.Omega.{arith}
-use lib.ListN.{length, take, drop, length-append, length-take, length-drop}
+use lib.ListN.{length, take, length-append, length-take, length-drop}
 use lib.Dec.{ltb}
 use borrow.Author.Tests.{ltb-true, ltb-false, eq-eqb, le-leb}
 use Rattle.records.specs.Saved.{Saved}
@@ -31,14 +31,15 @@ use Rattle.yapp_sender.specs.Sender.{transmit, receive, replied, statusOf, unle
 use Rattle.yapp_receiver.specs.Receiver.{statusOf as statusR}
 use Rattle.transfers.specs.MachinesYapp.{receiverTakes, receive as receiveR′, transmit as transmitR′}
 use Rattle.transfers.specs.World.{World, Left, Act, transmitS, timeoutS, cancelS, transmitR, timeoutR, cancelR, receiveS, receiveR, Call, Calm, NoStop}
-use Rattle.transfers.specs.Yapp.{Settings, Config, begins, checked, made, stepBy, step, runs, Fair, own, refused, Fairly, Calmly, Quiet, workOf, workIn, work, ComesToEnd}
+use Rattle.transfers.specs.Yapp.{Settings, Config, begins, checked, made, stepBy, step, runs, Fair, Fairly, Calmly, Quiet, workOf, workIn, work, ComesToEnd}
+use Rattle.transfers.proofs.Calls.{sent-is, by-check, by-fair}
 use Rattle.transfers.proofs.Stored.{Stored, Between}
 use Rattle.transfers.proofs.YappPhases.{machine, now, called, again, sent, block, senderSet, receiverSet, Reply, plainly, checking, resuming, Good, g0, g1, g2, g3, g4, g5, g6, g7, g8, g9, g10}
 use Rattle.transfers.proofs.YappGood.{nextBlock, next-is, blockMove, Accepts, accepted, Keeps, keeps, take-header, take-data}
 use Rattle.transfers.proofs.YappWire.{Formed, word-rr, word-af, word-at, word-si, word-ef, word-et, word-hd, block-formed, writes-none, writes-cons, some-bytes, View, waits, takes, view}
 use Rattle.transfers.proofs.YappRest.{sender-unfinished, receiver-unfinished, reply-word}
 use Rattle.transfers.proofs.YappBytes.{WInv, in-phase}
-use Rattle.transfers.proofs.YappTheorem.{savedIn, zeros, zeros-length, sent-is, Holds, status-S, status-R, check-takes, any-step, loosen, calm-call, calm-run, begun}
+use Rattle.transfers.proofs.YappTheorem.{savedIn, Holds, status-S, status-R, check-takes, any-step, loosen, calm-call, calm-run, begun}
 
 -- a packet has at most 259 bytes
 written : (m : Bool) {c : Content} → Formed c → length (writes m (c ∷ [])) ≤ 259
@@ -277,22 +278,18 @@ module _ (w : World) (t : Settings) where
     spends cancelR reply q e = absurd q
 
     -- and one that is refused none
-    idles : (a : Act) (reply : List ℕ) {s : Status} → checked w a c reply none ≡ s → isTaken s ≡ false → Spends a reply
-    idles a reply e x =
-        let u = any-step w t c (loosen w t c h) a reply none none .unmoved (ap isTaken e ∙ x) in
+    idles : (a : Act) (reply : List ℕ) (lent handed : Option (List ℕ)) → isTaken (checked w a c reply lent) ≡ false
+        → workOf w (made w a c reply lent handed) + far (stepBy w c lent (made w a c reply lent handed)) ≤ far c
+    idles a reply lent handed e =
+        let u = any-step w t c (loosen w t c h) a reply lent handed .unmoved e in
         rw (u .0, u .1) (omega arith)
 
-    spends-call : (a : Act) (reply : List ℕ) (lent handed : Option (List ℕ)) (s : Status) → checked w a c reply lent ≡ s → Fair lent handed s → NoStop a s
+    spends-call : (a : Act) (reply : List ℕ) (lent handed : Option (List ℕ)) → Fair lent handed (checked w a c reply lent) → NoStop a (checked w a c reply lent)
         → workOf w (made w a c reply lent handed) + far (stepBy w c lent (made w a c reply lent handed)) ≤ far c
-    spends-call a reply lent handed s e (refused x) q =
-        let u = any-step w t c (loosen w t c h) a reply lent handed .unmoved (ap isTaken e ∙ x) in
-        rw (u .0, u .1) (omega arith)
-    spends-call a reply lent handed s e own (inr x) = idles a reply e x
-    spends-call a reply lent handed Taken e own (inl q) = spends a reply q e
-    spends-call a reply lent handed Over e own (inl q) = idles a reply e refl
-    spends-call a reply lent handed LongFrame e own (inl q) = idles a reply e refl
-    spends-call a reply lent handed SmallReply e own (inl q) = idles a reply e refl
-    spends-call a reply lent handed WrongLength e own (inl q) = idles a reply e refl
+    spends-call a reply lent handed f (inr e) = idles a reply lent handed e
+    spends-call a reply lent handed f (inl q) =
+        by-fair (λ (l g : Option (List ℕ)). workOf w (made w a c reply l g) + far (stepBy w c l (made w a c reply l g)) ≤ far c) f
+        (idles a reply lent handed) (by-check (checked w a c reply none) (idles a reply none none) (spends a reply q))
 
     -- ---- a session in which nothing more is sent or taken is run to its end
 
@@ -328,7 +325,7 @@ module _ (w : World) (t : Settings) where
   bounded : (ks : List Call) (c : Config) → Holds w t true c → Fairly w ks c → Calmly w ks c → work w ks c ≤ far c
   bounded [] c h f q = omega arith
   bounded (k ∷ ks) c h f q =
-      let s = spends-call c h (k .act) (k .reply) (k .lent) (k .handed) _ refl (f .0) (q .0) in
+      let s = spends-call c h (k .act) (k .reply) (k .lent) (k .handed) (f .0) (q .0) in
       let r = bounded ks (step w k c) (calm-call w t c k h (f .0) (q .0)) (f .1) (q .1) in
       omega (arith, s, r)
 

@@ -1,6 +1,6 @@
 -- Demand 3 for one session by YAPP: what it leaves is again as it has to be, and without timers and stops, run to its end, it is complete.
 -- Assumes nothing.
-use Prim.Native.Nat.{ℕ, _+_, _-_, _≤_}
+use Prim.Native.Nat.{ℕ, _-_, _≤_}
 use mathlib.Core.Path.{subst, _≡_, refl, ap, sym, _∙_}
 use mathlib.Core.Bool.{Bool, true, false, false≢true}
 use mathlib.Core.List.{List, [], _∷_, append-nil}
@@ -9,7 +9,7 @@ use mathlib.Core.Logic.{_⊎_, inl, inr}
 use native.Mathlib.Omega.{arith}
 use native.Mathlib.Nat.{add-zero, sub-zero}
 use lib.ListN.{length, take, drop, replicate, length-append, length-replicate}
-use lib.Seq.{take-append-seam, take-length}
+use lib.Seq.{take-length}
 use lib.Dec.{ltb}
 use borrow.Author.Tests.{ltb-true, le-leb, le-ltb, eq-eqb}
 use Rattle.fields.specs.Pick.{pick}
@@ -45,6 +45,7 @@ use Rattle.yapp_receiver.specs.Receiver.{ReceiverAfter, settingsOf as settingsR
 use Rattle.transfers.specs.MachinesYapp.{receiverTakes, receive as receiveR′, transmit as transmitR′, timeout as timeoutR′, cancel as cancelR′}
 use Rattle.transfers.specs.World.{World, Left, Act, transmitS, timeoutS, cancelS, transmitR, timeoutR, cancelR, receiveS, receiveR, atSender, Call, lentOr, ours, savedBytes, laidBy, Calm, NoStop}
 use Rattle.transfers.specs.Yapp.{Settings, Watch, Config, receiverBy, begins, dataIn, cameBy, packetSent, OnePacket, seen, stepS, stepR, endedAt, ownAt, givenTo, checked, Made, bySender, byReceiver, made, stepBy, step, runs, Fair, own, refused, Fairly, Calmly, Quiet, Complete, workOf, statusIn, Observed, Serves, leaves}
+use Rattle.transfers.proofs.Calls.{sent-is, lent-back}
 use Rattle.transfers.proofs.Stored.{Ours, Stored, Between, lays-none, ours-bytes, ours-back, name-back, saved-back, name-room, name-short}
 use Rattle.transfers.proofs.YappPhases.{machine, fall, isRD, called, again, sent, block, senderSet, receiverSet, Good, g0, g1, g2, g3, g4, g5, g6, g7, g8, g9, g10}
 use Rattle.transfers.proofs.YappGood.{nextBlock, next-is, blockMove}
@@ -56,16 +57,11 @@ abbrev pub savedIn : Receiver → Option Saved
 savedIn m = savedBy (m .core .keeping) (m .name)
 
 -- a buffer of zeros
-abbrev pub zeros : ℕ → List ℕ
+abbrev zeros : ℕ → List ℕ
 zeros n = replicate n 0
 
-pub zeros-length : (n : ℕ) → length (zeros n) ≡ n
+zeros-length : (n : ℕ) → length (zeros n) ≡ n
 zeros-length n = length-replicate {A = ℕ} n 0
-
--- what is sent stands at the front of the reply buffer
-pub sent-is : (bs d : List ℕ) → take (length bs) (over 0 bs d) ≡ bs
-unfolding over
-sent-is bs d = take-append-seam bs (drop (0 + length bs) d)
 
 sent-whole : (k : Bool) {out : List Content} (reply : List ℕ) → Brief out → OnePacket (take (length (writes k out)) (over 0 (writes k out) reply))
 sent-whole k {out} reply b = rw (sent-is (writes k out) reply) (one-packet k b)
@@ -102,10 +98,6 @@ module _ (w : World) (t : Settings) where
     pub observed : Fair lent handed x → Observed w c m
 
   -- ---- a call that is refused changes nothing
-
-  lent-back : (area : List ℕ) (lent : Option (List ℕ)) → ours area (lentOr area lent) lent ≡ area
-  lent-back area none = refl
-  lent-back area (some l) = refl
 
   same-R : (c : Config) (lent : Option (List ℕ)) (s : Status) (reply : List ℕ) → stepR w c lent (refusedR (c .rcv) s (lentOr (c .area) lent) reply) [] ≡ c
   same-R c lent s reply =
