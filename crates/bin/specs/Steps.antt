@@ -1,5 +1,5 @@
 -- What the two ends of #BIN# do, over frames. (Document 01, "Lines of #BIN#".)
-use Prim.Native.Nat.{ℕ, _+_, _-_}
+use Prim.Native.Nat.{ℕ, _+_}
 use mathlib.Core.Bool.{Bool, true, false, _&&_}
 use mathlib.Core.List.{List, [], _∷_, _++_}
 use mathlib.Core.Option.{Option, none, some}
@@ -7,7 +7,7 @@ use lib.ListN.{length, take, drop}
 use lib.Dec.{leb, eqb}
 use Rattle.fields.specs.Pick.{pick}
 use Rattle.fields.specs.Lists.{same}
-use Rattle.fields.specs.Buffer.{Form, formless, bytes, appended}
+use Rattle.fields.specs.Buffer.{appended}
 use Rattle.fields.specs.declared.Stamp.the-variants.{Present}
 use Rattle.crc.specs.Crc.{crcOf}
 use Rattle.lines.specs.Frame.{starts, displayMark, stopFrame, frameOf}

@@ -6,7 +6,7 @@ pub enum SenderState {
     Start,
     // The line was sent.
     Wait,
-    // How many bytes of the file were sent.
+    // The index in the file of the next byte to send.
     Send { at: u32 },
     Ended { outcome: Outcome },
 }

@@ -1,65 +1,64 @@
--- What the receiver's calls and beginnings are by what was decided below. Assumes nothing.
-use mathlib.Core.Path.{_≡_, refl, sym, ap, _∙_}
-use mathlib.Core.Bool.{Bool}
-use mathlib.Core.List.{List}
+-- Laws of the receiver's calls, one for each case. Assumes nothing.
+use mathlib.Core.Path.{_≡_, ap, sym, _∙_}
+use mathlib.Core.Bool.{true, false}
+use mathlib.Core.List.{List, []}
+use mathlib.Core.Option.{Option}
 use Prim.Native.Nat.{ℕ}
 use lib.ListN.{length}
+use Rattle.fields.specs.Lists.{nowhere}
 use Rattle.fields.specs.declared.Place.{Place}
-use Rattle.records.specs.declared.Record.{Record}
-use Rattle.records.specs.declared.RecordRead.{RecordRead}
-use Rattle.records.specs.declared.RecordRead.the-variants.{Good, Unreadable}
-use Rattle.records.specs.Record.{recordOf}
-use Rattle.records.specs.Saved.{savedOf}
-use Rattle.calls.specs.declared.Outcome.the-variants.{TimedOut, Stopped}
+use Rattle.records.specs.Saved.{Saved}
+use Rattle.calls.specs.declared.Outcome.{Outcome}
+use Rattle.calls.specs.declared.Keeping.{Keeping}
 use Rattle.calls.specs.declared.Status.{Status}
-use Rattle.calls.specs.Checks.{unless}
-use Rattle.calls.specs.Saving.{isWithin}
-use Rattle.calls.proofs.Laws.{unless-ap}
-use Rattle.bin.specs.Steps.{ReceiverMove, receiverTakes, receiverFails}
-use Rattle.bin_checks.specs.Begun.{begunWith, begunBy}
-use Rattle.bin_calls.specs.Calls.{Left, leftBy, refusedLeft, receives, fails}
-use Rattle.bin_calls.proofs.Steps.{pick-both}
+use Rattle.calls.specs.Checks.{isTaken}
+use Rattle.calls.specs.Saving.{heldOf}
+use Rattle.calls.proofs.Names.{held-saved, held-held}
+use Rattle.calls.proofs.Laws.{taken-open, unless-taken, unless-refused}
+use Rattle.bin.specs.declared.ReceiverState.the-variants.{Ended}
+use Rattle.bin.specs.Steps.{receiverTakes, receiverFails, receiverEnded}
+use Rattle.bin_receiver.specs.declared.step.ReceiverCore.{ReceiverCore}
+use Rattle.bin_receiver.specs.declared.step.Step.{Step}
+use Rattle.bin_receiver.specs.declared.step.Out.the-variants.{Stop}
 use Rattle.bin_receiver.specs.declared.Receiver.{Receiver}
-use Rattle.bin_receiver.specs.declared.ReceiverAnswer.{ReceiverAnswer}
-use Rattle.bin_receiver.specs.Receiver.{ReceiverAfter, unlessRefused, statusOf, replied, settingsOf, savedIn, shownIn, nowhere, withSaved, resumeBy, resume, receive, timeout, cancel}
-use Rattle.bin_receiver.specs.Acts.{begunAs, answeredBy, afterBy}
-
--- by what the call below left, and the answer put together
-put-by : (d : ReceiverAfter) (k l : Left) (x : ReceiverAnswer) → d ≡ afterBy k → k ≡ l → x ≡ answeredBy (l .answer)
-    → d ≡ record { answer = x; area = l .area; reply = l .reply }
-put-by d k l x e h w = e ∙ ap afterBy h ∙ ap (λ (y : ReceiverAnswer). record { answer = y; area = l .area; reply = l .reply }) (sym w)
+use Rattle.bin_receiver.specs.Step.{goesTo, doneAs}
+use Rattle.bin_receiver.specs.Arrivals.{frameStep}
+use Rattle.bin_receiver.specs.Output.{repliedBy}
+use Rattle.bin_receiver.specs.Receiver.{replied, refusedCall, settingsOf, savedIn, statusOf, shownIn, receive, fails}
+use Rattle.bin_receiver.proofs.Moves.{takes-is, fails-is}
 
 module _ (m : Receiver) (area reply : List ℕ) where
-  answered-is : (shown : Place) (a : ReceiverMove) (s : Status)
-      → unlessRefused s m area reply (replied m shown a reply)
-      ≡ afterBy (unless s (refusedLeft (m .core) (m .name) area reply) (leftBy (m .core) (m .name) shown a reply))
-  answered-is shown a s =
-      sym (unless-ap afterBy (refusedLeft (m .core) (m .name) area reply) (leftBy (m .core) (m .name) shown a reply) s)
+  abbrev holding : Keeping → ReceiverCore
+  holding k = record { state = m .core .state; room = m .core .room; resumes = m .core .resumes; keeping = k }
 
-  pub receive-by : (f : List ℕ) (l : Left) (x : ReceiverAnswer) → receives (m .core) (m .name) f area reply ≡ l → x ≡ answeredBy (l .answer)
-      → receive m f area reply ≡ record { answer = x; area = l .area; reply = l .reply }
-  unfolding receive receives
-  receive-by f l x h w =
-      put-by _ _ l x (answered-is (shownIn (m .core .state) f) (receiverTakes (settingsOf m) (m .core .state) (savedIn m) area f) (statusOf m (length f) area reply)) h w
+  -- by the record that is held, the step and the text to show
+  pub receive-taken : (f : List ℕ) (k : Keeping) (s : Step) (a : List ℕ) (shown : Place)
+      → isTaken (statusOf m (length f) area reply) ≡ true → k ≡ heldOf (m .core .keeping) (m .name)
+      → frameStep (holding k) f (m .name) area ≡ doneAs s a → shown ≡ shownIn (m .core .state) f
+      → receive m f area reply ≡ repliedBy m shown f reply (doneAs s a)
+  unfolding receive
+  receive-taken f k s a shown h held step text =
+      unless-taken (λ (x : Status). refusedCall m x area reply) (replied m (shownIn (m .core .state) f) (receiverTakes (settingsOf m) (m .core .state) (savedIn m) area f) reply) (statusOf m (length f) area reply) h
+      ∙ ap (λ (v : Option Saved). replied m (shownIn (m .core .state) f) (receiverTakes (settingsOf m) (m .core .state) v area f) reply) (sym (held-saved (m .core .keeping) (m .name)))
+      ∙ takes-is m (shownIn (m .core .state) f) f reply (holding (heldOf (m .core .keeping) (m .name))) area (held-held (m .core .keeping) (m .name))
+      ∙ rw (← held, step, ← text)
 
-  pub timeout-by : (l : Left) (x : ReceiverAnswer) → fails TimedOut (m .core) (m .name) area reply ≡ l → x ≡ answeredBy (l .answer)
-      → timeout m area reply ≡ record { answer = x; area = l .area; reply = l .reply }
-  unfolding timeout fails
-  timeout-by l x h w = put-by _ _ l x (answered-is nowhere (receiverFails TimedOut (m .core .state) (savedIn m) area) (statusOf m 0 area reply)) h w
+  pub receive-refused : (f : List ℕ) → isTaken (statusOf m (length f) area reply) ≡ false
+      → receive m f area reply ≡ refusedCall m (statusOf m (length f) area reply) area reply
+  unfolding receive
+  receive-refused f h =
+      unless-refused (λ (x : Status). refusedCall m x area reply) (replied m (shownIn (m .core .state) f) (receiverTakes (settingsOf m) (m .core .state) (savedIn m) area f) reply) (statusOf m (length f) area reply) h
 
-  pub cancel-by : (l : Left) (x : ReceiverAnswer) → fails Stopped (m .core) (m .name) area reply ≡ l → x ≡ answeredBy (l .answer)
-      → cancel m area reply ≡ record { answer = x; area = l .area; reply = l .reply }
-  unfolding cancel fails
-  cancel-by l x h w = put-by _ _ l x (answered-is nowhere (receiverFails Stopped (m .core .state) (savedIn m) area) (statusOf m 0 area reply)) h w
+  pub fails-taken : (o : Outcome) (k : Keeping) (s : Step) → isTaken (statusOf m 0 area reply) ≡ true
+      → k ≡ heldOf (m .core .keeping) (m .name) → s ≡ goesTo (Ended o) k Stop 0
+      → fails o m area reply ≡ repliedBy m nowhere [] reply (doneAs s area)
+  fails-taken o k s h held step =
+      unless-taken (λ (x : Status). refusedCall m x area reply) (replied m nowhere (receiverFails o (m .core .state) (savedIn m) area) reply) (statusOf m 0 area reply) h
+      ∙ ap (λ (v : Option Saved). replied m nowhere (receiverFails o (m .core .state) v area) reply) (sym (held-saved (m .core .keeping) (m .name)))
+      ∙ fails-is m nowhere [] reply o (m .core .state) (heldOf (m .core .keeping) (m .name)) area (held-held (m .core .keeping) (m .name)) (taken-open (receiverEnded (m .core .state)) (length reply) 0 (length area) (m .core .room) h)
+      ∙ rw (← held, step)
 
-saved-is : (b : List ℕ) (room : ℕ) (resumes : Bool) (r : Record) → withSaved room resumes (savedOf b r) ≡ begunAs (begunWith b room resumes r)
-unfolding withSaved begunWith
-saved-is b room resumes r = pick-both (λ (x : Receiver). x) begunAs (isWithin (r .kept) (r .size) room) refl refl
-
-by-is : (b : List ℕ) (room : ℕ) (resumes : Bool) (x : RecordRead) → resumeBy room resumes b x ≡ begunAs (begunBy b room resumes x)
-by-is b room resumes (Good r) = saved-is b room resumes r
-by-is b room resumes Unreadable = refl
-
-pub resume-is : (b : List ℕ) (room : ℕ) (resumes : Bool) → resume b room resumes ≡ begunAs (begunBy b room resumes (recordOf b))
-unfolding resume
-resume-is b room resumes = by-is b room resumes (recordOf b)
+  pub fails-refused : (o : Outcome) → isTaken (statusOf m 0 area reply) ≡ false
+      → fails o m area reply ≡ refusedCall m (statusOf m 0 area reply) area reply
+  fails-refused o h =
+      unless-refused (λ (x : Status). refusedCall m x area reply) (replied m nowhere (receiverFails o (m .core .state) (savedIn m) area) reply) (statusOf m 0 area reply) h

@@ -1,2 +1,6 @@
 pub mod Receiver
-pub mod Acts
+pub mod Step
+pub mod Output
+pub mod Line
+pub mod Frame
+pub mod Arrivals

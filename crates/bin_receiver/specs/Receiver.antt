@@ -1,31 +1,32 @@
 -- The receiver of #BIN#: its beginnings, and what each call answers and leaves. (Document 01, "Lines of #BIN#", "The saved record", "Numbers
 -- that refuse or end".)
 use Prim.Native.Nat.{ℕ}
-use mathlib.Core.Bool.{Bool, _&&_}
-use mathlib.Core.List.{List, []}
+use mathlib.Core.Bool.{Bool, true, false, _&&_}
+use mathlib.Core.List.{List}
 use mathlib.Core.Option.{Option, none, some}
 use lib.ListN.{length, replicate}
 use lib.Dec.{leb}
 use Rattle.fields.specs.Pick.{pick}
+pub use Rattle.fields.specs.Lists.{nowhere}
 use Rattle.fields.specs.Buffer.{Form, over, appended}
 use Rattle.fields.specs.declared.Place.{Place}
+use Rattle.lines.specs.Frame.{starts, displayMark, shownOf}
 use Rattle.records.specs.declared.RecordRead.{RecordRead}
 use Rattle.records.specs.declared.RecordRead.the-variants.{Good, Unreadable}
 use Rattle.records.specs.Record.{recordOf}
 use Rattle.records.specs.Saved.{Saved, savedOf}
 use Rattle.calls.specs.declared.Outcome.{Outcome}
 use Rattle.calls.specs.declared.Outcome.the-variants.{RecordUnreadable, RecordOver, TimedOut, Stopped}
+use Rattle.calls.specs.declared.Keeping.{Keeping}
 use Rattle.calls.specs.declared.Status.{Status}
 use Rattle.calls.specs.declared.Status.the-variants.{Taken}
 use Rattle.calls.specs.Checks.{checkOf, unless}
 use Rattle.calls.specs.Saving.{savedBy, keepingOf, nameOf, formBy}
 use Rattle.bin.specs.declared.ReceiverState.{ReceiverState}
-use Rattle.bin.specs.declared.ReceiverState.the-variants.{Waiting, Ended}
-pub use Rattle.bin_steps.specs.Steps.{nowhere}
-pub use Rattle.bin_checks.specs.Shown.{shownIn}
+use Rattle.bin.specs.declared.ReceiverState.the-variants.{Waiting, Basic, Extended, Ended}
+use Rattle.bin.specs.Steps.{joined, ReceiverSettings, ReceiverMove, receiverTakes, receiverFails, receiverEnded}
 use Rattle.bin_receiver.specs.declared.Receiver.{Receiver}
 use Rattle.bin_receiver.specs.declared.ReceiverAnswer.{ReceiverAnswer}
-use Rattle.bin.specs.Steps.{joined, ReceiverSettings, ReceiverMove, receiverTakes, receiverFails, receiverEnded}
 
 -- ---- the beginnings
 
@@ -73,22 +74,27 @@ abbrev pub refusedCall : Receiver → Status → List ℕ → List ℕ → Recei
 refusedCall m s area reply =
     record { answer = record { receiver = m; status = s; sent = 0; stored = 0; shown = nowhere }; area = area; reply = reply }
 
--- the frame that is sent stands at the front of the reply buffer
-abbrev pub replied : Receiver → Place → ReceiverMove → List ℕ → ReceiverAfter
-replied m shown a reply = record {
+-- a call that is taken: a name is kept at the front of its array, and the frame that is sent stands at the front of the reply buffer
+abbrev pub repliedWith : Receiver → Place → ReceiverState → Keeping → List ℕ → List ℕ → ℕ → List ℕ → List ℕ → ReceiverAfter
+repliedWith m shown st k name said stored area reply = record {
   answer = record {
     receiver = record {
-      name = appended 0 (nameOf (a .saved)) (m .name);
-      core = record { state = a .state; room = m .core .room; resumes = m .core .resumes; keeping = keepingOf (a .saved) };
+      name = appended 0 name (m .name);
+      core = record { state = st; room = m .core .room; resumes = m .core .resumes; keeping = k };
     };
     status = Taken;
-    sent = length (joined (a .out));
-    stored = a .stored;
+    sent = length said;
+    stored = stored;
     shown = shown;
   };
-  area = a .area;
-  reply = over 0 (joined (a .out)) reply;
+  area = area;
+  reply = over 0 said reply;
 }
+
+-- by where the receiver goes
+abbrev pub replied : Receiver → Place → ReceiverMove → List ℕ → ReceiverAfter
+replied m shown a reply =
+    repliedWith m shown (a .state) (keepingOf (a .saved)) (nameOf (a .saved)) (joined (a .out)) (a .stored) (a .area) reply
 
 abbrev pub statusOf : Receiver → ℕ → List ℕ → List ℕ → Status
 statusOf m frame area reply = checkOf (receiverEnded (m .core .state)) (length reply) frame (length area) (m .core .room)
@@ -100,23 +106,36 @@ unlessRefused s m area reply after = unless s (λ (x : Status). refusedCall m x 
 unfoldable pub transmit : Receiver → List ℕ → List ℕ → ReceiverAfter
 transmit m area reply = refusedCall m (statusOf m 0 area reply) area reply
 
+-- whether a line was accepted
+abbrev pub isAccepted : ReceiverState → Bool
+isAccepted Waiting = false
+isAccepted (Basic size kept) = true
+isAccepted (Extended crc) = true
+isAccepted (Ended o) = false
+
+-- text to show, in a frame for display of an accepted transfer: what stands behind `SP\-`
+unfoldable pub shownIn : ReceiverState → List ℕ → Place
+shownIn st f = pick (isAccepted st && starts displayMark f) (shownOf f) nowhere
+
 -- a frame has arrived
 unfoldable pub receive : Receiver → List ℕ → List ℕ → List ℕ → ReceiverAfter
 receive m frame area reply =
     unlessRefused (statusOf m (length frame) area reply) m area reply
     (replied m (shownIn (m .core .state) frame) (receiverTakes (settingsOf m) (m .core .state) (savedIn m) area frame) reply)
 
+-- timer or operator's stop
+abbrev pub fails : Outcome → Receiver → List ℕ → List ℕ → ReceiverAfter
+fails o m area reply =
+    unlessRefused (statusOf m 0 area reply) m area reply
+    (replied m nowhere (receiverFails o (m .core .state) (savedIn m) area) reply)
+
 -- the timer ran out
 unfoldable pub timeout : Receiver → List ℕ → List ℕ → ReceiverAfter
-timeout m area reply =
-    unlessRefused (statusOf m 0 area reply) m area reply
-    (replied m nowhere (receiverFails TimedOut (m .core .state) (savedIn m) area) reply)
+timeout m area reply = fails TimedOut m area reply
 
 -- the operator's stop
 unfoldable pub cancel : Receiver → List ℕ → List ℕ → ReceiverAfter
-cancel m area reply =
-    unlessRefused (statusOf m 0 area reply) m area reply
-    (replied m nowhere (receiverFails Stopped (m .core .state) (savedIn m) area) reply)
+cancel m area reply = fails Stopped m area reply
 
 -- ---- the record
 

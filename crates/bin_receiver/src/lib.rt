@@ -1,18 +1,40 @@
 // The #BIN# receiver.
+use crate::step::Out;
+use crate::step::ReceiverCore;
+use crate::step::Step;
 use bin::ReceiverState;
-use bin_calls::Answer;
-use bin_checks::ReceiverCore;
+use calls::Entry;
 use calls::Keeping;
 use calls::Outcome;
 use calls::RecordAnswer;
 use calls::Status;
+use calls::saving;
+use fields::Limits;
 use fields::Place;
+use fields::buffers;
+use records::Record;
+use records::RecordRead;
+use records::record_reader;
 ghost use mathlib.Core.Path.{_≡_};
+ghost use mathlib.Core.List.{List, []};
+ghost use mathlib.Core.Option.{none};
+ghost use lib.ListN.{length};
+ghost use Prim.Native.Nat.{ℕ, _≤_};
+ghost use Rattle.records.specs.Saved.{savedOf};
 ghost use Rattle.calls.specs.Recording.{recordAnswer, recordLeft};
-ghost use Rattle.bin_receiver.specs.Acts.{answeredBy};
-ghost use Rattle.bin_receiver.specs.Receiver.{fresh as freshOf, resume as resumeOf, transmit as transmitOf, receive as receiveOf, timeout as timeoutOf, cancel as cancelOf, recordBy};
+ghost use Rattle.bin_receiver.specs.Receiver.{fresh as freshOf, receiverWith, withSaved, resume as resumeOf, refusedCall, transmit as transmitOf, receive as receiveOf, fails, timeout as timeoutOf, cancel as cancelOf, recordBy};
+ghost use Rattle.bin_receiver.specs.Step.{doneAs};
+ghost use Rattle.bin_receiver.specs.Output.{repliedBy};
+
+mod arrivals;
+mod check;
+mod frame;
+mod line;
+mod output;
+mod step;
 
 pub struct Receiver {
+    // The record's name stands at the front.
     name: [u8; 64],
     core: ReceiverCore,
 }
@@ -20,7 +42,7 @@ pub struct Receiver {
 pub struct ReceiverAnswer {
     pub receiver: Receiver,
     pub status: Status,
-    // How many bytes of the reply buffer are the frame to be sent; none where there is none.
+    // How many bytes of the reply buffer (document 01: the reply room) are the frame to be sent; none where there is none.
     pub sent: usize,
     // How many bytes were stored in the area.
     pub stored: usize,
@@ -28,38 +50,20 @@ pub struct ReceiverAnswer {
     pub shown: Place,
 }
 
-// The receiver after a call, and what the call answers.
-fn answered(answer: Answer) -> ReceiverAnswer
-    ensures { λ r. ⌜ r ≡ answeredBy answer ⌝ }
-{
-    let name = answer.name;
-    let core = answer.core;
-    let status = answer.status;
-    let shown = answer.shown;
-    ReceiverAnswer {
-        receiver: Receiver { name, core },
-        status,
-        sent: answer.sent,
-        stored: answer.stored,
-        shown,
-    }
-}
-
 impl Receiver {
     // A reply buffer has at least this many bytes.
-    pub const LEAST_REPLY: usize = calls::LEAST_REPLY;
+    pub const LEAST_REPLY: usize = Limits::REPLY;
     // A frame has at most this many bytes.
-    pub const LONGEST_FRAME: usize = calls::LONGEST_FRAME;
+    pub const LONGEST_FRAME: usize = Limits::FRAME;
     // The buffer that a record is written into has at least this many bytes.
-    pub const LEAST_RECORD: usize = calls::LEAST_RECORD;
+    pub const LEAST_RECORD: usize = Limits::RECORD;
 
     // A receiver with no record.
     pub fn fresh(room: usize, resumes: bool) -> Self
         ensures { λ r. ⌜ r ≡ freshOf room resumes ⌝ }
     {
-        let name = [0; 64];
         Receiver {
-            name,
+            name: [0; 64],
             core: ReceiverCore {
                 state: ReceiverState::Waiting,
                 room,
@@ -69,21 +73,64 @@ impl Receiver {
         }
     }
 
+    // A beginning that is refused: an end that has ended, with no record.
+    fn ended(outcome: Outcome, room: usize, resumes: bool) -> Self
+        ensures { λ r. ⌜ r ≡ receiverWith (ReceiverState.Ended outcome) room resumes none ⌝ }
+    {
+        Receiver {
+            name: [0; 64],
+            core: ReceiverCore {
+                state: ReceiverState::Ended { outcome },
+                room,
+                resumes,
+                keeping: Keeping::Nothing,
+            },
+        }
+    }
+
+    // From a record; kept over size, or size over area, is 2.
+    fn saved(r: Record, bytes: &[u8], room: usize, resumes: bool) -> Self
+        ensures { λ m. ⌜ m ≡ withSaved room resumes (savedOf (now (bytes .entry)) r) ⌝ }
+    {
+        if saving::is_within(r.kept, r.size, room) {
+            let place = r.name;
+            let stamp = r.stamp;
+            let own = fields::bytes_at(bytes, place);
+            let mut name = [0; 64];
+            buffers::append_bytes(&mut name, 0, own);
+            let entry = Entry {
+                named: own.len(),
+                size: r.size,
+                kept: r.kept,
+                stamp,
+            };
+            return Receiver {
+                name,
+                core: ReceiverCore {
+                    state: ReceiverState::Waiting,
+                    room,
+                    resumes,
+                    keeping: Keeping::Of(entry),
+                },
+            };
+        }
+        Receiver::ended(Outcome::RecordOver, room, resumes)
+    }
+
     // A receiver with the record that these bytes are; unreadable ones are 1, a record out of its limits is 2.
     pub fn resume(bytes: &[u8], room: usize, resumes: bool) -> Self
         ensures { λ r. ⌜ r ≡ resumeOf (now (bytes .entry)) room resumes ⌝ }
     {
-        let begun = bin_checks::begin(bytes, room, resumes);
-        let name = begun.name;
-        let core = begun.core;
-        Receiver { name, core }
+        let RecordRead::Good(r) = record_reader::record_of(bytes) else {
+            return Receiver::ended(Outcome::RecordUnreadable, room, resumes);
+        };
+        Receiver::saved(r, bytes, room, resumes)
     }
 
-    // A chance to send; a receiver has nothing to send.
-    pub fn transmit(self, area: &[u8], reply: &mut [u8]) -> ReceiverAnswer
-        ensures { λ r. ⌜ transmitOf self (now (area .entry)) (now (reply .entry)) ≡ record { answer = r; area = now (area .entry); reply = now (reply .exit) } ⌝ }
+    // A call that changes nothing.
+    fn unchanged(self, status: Status) -> ReceiverAnswer
+        ensures { λ r. ⌜ r ≡ refusedCall self status [] [] .answer ⌝ }
     {
-        let status = bin_checks::check(self.core, reply.len(), 0, area.len());
         ReceiverAnswer {
             receiver: self,
             status,
@@ -93,28 +140,96 @@ impl Receiver {
         }
     }
 
-    // A frame has arrived.
+    // Keeps the name, which stands in the frame where it is new, says what is to be said, and answers.
+    fn finish(self, shown: Place, step: Step, frame: &[u8], reply: &mut [u8]) -> ReceiverAnswer
+        requires { ⌜ 259 ≤ length (now reply) ⌝ }
+        ensures { λ r. ⌜ ((a : List ℕ) → repliedBy self shown (now (frame .entry)) (now (reply .entry)) (doneAs step a) ≡ record { answer = r; area = a; reply = now (reply .exit) }) ⌝ }
+    {
+        let out = step.out;
+        let place = step.name;
+        let state = step.state;
+        let keeping = step.keeping;
+        let next = fields::bytes_at(frame, place);
+        let mut name = self.name;
+        buffers::append_bytes(&mut name, 0, next);
+        let sent = output::put(reply, out, next);
+        ReceiverAnswer {
+            receiver: Receiver {
+                name,
+                core: ReceiverCore {
+                    state,
+                    room: self.core.room,
+                    resumes: self.core.resumes,
+                    keeping,
+                },
+            },
+            status: Status::Taken,
+            sent,
+            stored: step.stored,
+            shown,
+        }
+    }
+
+    // A chance to send (document 01: leave); a receiver has nothing to send.
+    pub fn transmit(self, area: &[u8], reply: &mut [u8]) -> ReceiverAnswer
+        ensures { λ r. ⌜ transmitOf self (now (area .entry)) (now (reply .entry)) ≡ record { answer = r; area = now (area .entry); reply = now (reply .exit) } ⌝ }
+    {
+        let status = check::check(self.core, reply.len(), 0, area.len());
+        self.unchanged(status)
+    }
+
+    // A frame has arrived (document 01: arriving bytes or frame).
     pub fn receive(self, frame: &[u8], area: &mut [u8], reply: &mut [u8]) -> ReceiverAnswer
         ensures { λ r. ⌜ receiveOf self (now (frame .entry)) (now (area .entry)) (now (reply .entry)) ≡ record { answer = r; area = now (area .exit); reply = now (reply .exit) } ⌝ }
     {
-        let name = self.name;
-        answered(bin_calls::receive(self.core, name, frame, area, reply))
+        let core = self.core;
+        let status = check::check(core, reply.len(), frame.len(), area.len());
+        if calls::is_taken(status) {
+            let state = core.state;
+            let keeping = core.keeping;
+            let name = self.name;
+            let own = &name[..];
+            let held = ReceiverCore {
+                state,
+                room: core.room,
+                resumes: core.resumes,
+                keeping: saving::held(keeping, own),
+            };
+            let step = arrivals::take(held, frame, own, area);
+            let shown = check::shown_in(state, frame);
+            return self.finish(shown, step, frame, reply);
+        }
+        self.unchanged(status)
     }
 
-    // The timer has run out.
+    // Timer or operator's stop: the stop frame is sent, and the record stands.
+    fn fail(self, outcome: Outcome, area: &[u8], reply: &mut [u8]) -> ReceiverAnswer
+        ensures { λ r. ⌜ fails outcome self (now (area .entry)) (now (reply .entry)) ≡ record { answer = r; area = now (area .entry); reply = now (reply .exit) } ⌝ }
+    {
+        let core = self.core;
+        let status = check::check(core, reply.len(), 0, area.len());
+        if calls::is_taken(status) {
+            let keeping = core.keeping;
+            let name = self.name;
+            let held = saving::held(keeping, &name);
+            let step = step::end(outcome, held, Out::Stop, 0);
+            return self.finish(Place { start: 0, len: 0 }, step, b"", reply);
+        }
+        self.unchanged(status)
+    }
+
+    // The timer has run out (document 01: timer).
     pub fn timeout(self, area: &[u8], reply: &mut [u8]) -> ReceiverAnswer
         ensures { λ r. ⌜ timeoutOf self (now (area .entry)) (now (reply .entry)) ≡ record { answer = r; area = now (area .entry); reply = now (reply .exit) } ⌝ }
     {
-        let name = self.name;
-        answered(bin_calls::fail(Outcome::TimedOut, self.core, name, area, reply))
+        self.fail(Outcome::TimedOut, area, reply)
     }
 
-    // The operator's stop.
+    // The operator's stop (document 01: operator's stop).
     pub fn cancel(self, area: &[u8], reply: &mut [u8]) -> ReceiverAnswer
         ensures { λ r. ⌜ cancelOf self (now (area .entry)) (now (reply .entry)) ≡ record { answer = r; area = now (area .entry); reply = now (reply .exit) } ⌝ }
     {
-        let name = self.name;
-        answered(bin_calls::fail(Outcome::Stopped, self.core, name, area, reply))
+        self.fail(Outcome::Stopped, area, reply)
     }
 
     // Writes the record's bytes, where there is a record.
@@ -124,7 +239,7 @@ impl Receiver {
         let core = self.core;
         let keeping = core.keeping;
         let name = self.name;
-        keeping::write_record(keeping, &name, buf)
+        saving::write_record(keeping, &name, buf)
     }
 
     pub fn state(self) -> ReceiverState

@@ -1,49 +1,59 @@
--- A call is taken, or refused. Assumes nothing.
+-- A call is taken, or refused; the beginnings. Assumes nothing.
 use mathlib.Core.Path.{_≡_, refl, sym, ap, _∙_}
 use mathlib.Core.Bool.{Bool, true, false}
 use mathlib.Core.List.{List, []}
 use Prim.Native.Nat.{ℕ, _≤_}
-use lib.ListN.{length}
-use lib.Dec.{ltb}
-use borrow.Author.Tests.{le-ltb}
-use Rattle.fields.specs.Pick.{pick}
-use Rattle.fields.proofs.Buffer.{over-none}
+use native.Mathlib.Omega.{arith}
+use lib.ListN.{length, replicate}
+use Rattle.fields.specs.Buffer.{appended, over}
+use Rattle.calls.specs.declared.Outcome.{Outcome}
 use Rattle.calls.specs.declared.Status.{Status}
-use Rattle.calls.specs.declared.Status.the-variants.{Taken, Over, LongFrame, SmallReply, WrongLength}
 use Rattle.calls.specs.Checks.{isTaken}
-use Rattle.calls.proofs.Laws.{taken-room}
-use Rattle.bin.specs.Steps.{SenderMove}
-use Rattle.bin_frames.specs.Frames.{laidOf}
-use Rattle.bin_sending.specs.declared.Event.{Event}
-use Rattle.bin_sending.specs.Sending.{Done, refuses, ifTaken, moveBy}
+use Rattle.calls.proofs.Laws.{taken-room, taken-open, taken-by, unless-taken, unless-refused}
+use Rattle.bin.specs.declared.SenderState.{SenderState}
+use Rattle.bin.specs.declared.SenderState.the-variants.{Start, Wait, Send, Ended}
+use Rattle.bin.specs.Steps.{SenderMove, stops, senderFails, senderEnded}
 use Rattle.bin_sender.specs.declared.Sender.{Sender}
-use Rattle.bin_sender.specs.Sender.{settingsOf, statusOf, replied, refusedCall, unlessRefused}
-use Rattle.bin_sender.specs.Acts.{calledBy, answeredBy}
+use Rattle.bin_sender.specs.declared.SenderAnswer.{SenderAnswer}
+use Rattle.bin_sender.specs.Sender.{SenderAfter, statusOf, refusedCall, replied, answered}
 
-module _ (m : Sender) (reply : List ℕ) where
-  -- where nothing is sent, nothing is laid down
-  laid-none : laidOf reply [] ≡ []
-  laid-none = go (ltb (length reply) 259)
-    where
-      go : (b : Bool) → pick {A = List ℕ} b [] [] ≡ []
-      go true = refl
-      go false = refl
+fails-stops : (o : Outcome) (st : SenderState) → senderEnded st ≡ false → stops o ≡ senderFails o st
+unfolding senderFails
+fails-stops o Start h = refl
+fails-stops o Wait h = refl
+fails-stops o (Send n) h = refl
+fails-stops o (Ended x) h = let z : _≡_ {A = ℕ} 0 1 = cc in absurd (omega arith)
 
-  refused : (s : Status) → refusedCall m s reply ≡ answeredBy m (refuses (m .core .state) s) reply
-  refused s = rw (laid-none, over-none reply)
+-- a call with a frame of so many bytes: the code has its status, and whether it is taken
+module _ (m : Sender) (frame : ℕ) (file reply : List ℕ) (s : Status) (b : Bool) (is : s ≡ statusOf m frame file reply) (told : b ≡ isTaken s) where
+  abbrev refuses : Status → SenderAfter
+  refuses x = refusedCall m x reply
 
-  by-status : (a : SenderMove) (s : Status) → (isTaken s ≡ true → 259 ≤ length reply)
-      → unlessRefused s m reply (replied m a reply) ≡ answeredBy m (ifTaken s (m .core .state) a) reply
-  by-status a Taken h = rw (le-ltb (length reply) 259 (h refl))
-  by-status a Over h = refused Over
-  by-status a LongFrame h = refused LongFrame
-  by-status a SmallReply h = refused SmallReply
-  by-status a WrongLength h = refused WrongLength
+  taken : b ≡ true → isTaken (statusOf m frame file reply) ≡ true
+  taken h = taken-by is told h
 
--- the code decided d
-pub called : (event : Event) (m : Sender) (frame file reply : List ℕ) (d : Done)
-    → d ≡ ifTaken (statusOf m (length frame) file reply) (m .core .state) (moveBy (settingsOf m) file (m .core .state) frame event)
-    → calledBy event m frame file reply ≡ answeredBy m d reply
-called event m frame file reply d e =
-    by-status m reply _ (statusOf m (length frame) file reply) (λ h. taken-room _ (length reply) (length frame) (length file) (m .core .size) h .0)
-    ∙ ap (λ (y : Done). answeredBy m y reply) (sym e)
+  pub room : b ≡ true → 259 ≤ length reply
+  room h = taken-room _ (length reply) frame (length file) (m .core .size) (taken h) .0
+
+  pub file-fits : b ≡ true → m .core .size ≤ 4294967295 → length file ≤ 4294967295
+  file-fits h g = let e = taken-room _ (length reply) frame (length file) (m .core .size) (taken h) .2 in omega arith
+
+  -- the code makes the move a, and leaves x
+  pub call-taken : b ≡ true → (a made : SenderMove) (x : SenderAfter) → made ≡ a → replied m made reply ≡ x → answered m frame file reply a ≡ x
+  call-taken h a made x e q =
+      unless-taken refuses (replied m a reply) (statusOf m frame file reply) (taken h)
+      ∙ ap (λ (y : SenderMove). replied m y reply) (sym e) ∙ q
+
+  pub call-refused : b ≡ false → (a : SenderMove) (r : SenderAnswer) → r ≡ record { sender = m; status = s; sent = 0 }
+      → answered m frame file reply a ≡ record { answer = r; reply = reply }
+  call-refused h a r e =
+      unless-refused refuses (replied m a reply) (statusOf m frame file reply) (taken-by is told h)
+      ∙ ap refuses (sym is) ∙ rw e
+
+  pub call-fails : b ≡ true → (o : Outcome) → stops o ≡ senderFails o (m .core .state)
+  call-fails h o = fails-stops o (m .core .state) (taken-open _ (length reply) frame (length file) (m .core .size) (taken h))
+
+-- a basic transfer has no name
+pub no-name : appended 0 [] (replicate 64 0) ≡ replicate 64 0
+unfolding appended over
+no-name = refl

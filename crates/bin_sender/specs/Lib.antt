@@ -1,2 +1,2 @@
 pub mod Sender
-pub mod Acts
+pub mod Step

@@ -1,7 +1,7 @@
 -- The sender of #BIN#: its beginnings, and what each call answers and leaves. (Document 01, "Lines of #BIN#", "Numbers that refuse or end".)
 use Prim.Native.Nat.{ℕ}
-use mathlib.Core.Bool.{Bool, true, false, _&&_}
-use mathlib.Core.List.{List, [], _∷_, _++_}
+use mathlib.Core.Bool.{Bool, _&&_}
+use mathlib.Core.List.{List, []}
 use lib.ListN.{length, take, replicate}
 use lib.Dec.{leb}
 use Rattle.fields.specs.Pick.{pick}
@@ -16,22 +16,24 @@ use Rattle.bin.specs.declared.Announce.{Announce}
 use Rattle.bin.specs.declared.Announce.the-variants.{Basic, Extended}
 use Rattle.bin.specs.declared.SenderState.{SenderState}
 use Rattle.bin.specs.declared.SenderState.the-variants.{Start, Ended}
-use Rattle.bin_frames.specs.Frames.{blockOf}
 use Rattle.bin_sender.specs.declared.Sender.{Sender}
 use Rattle.bin_sender.specs.declared.SenderAnswer.{SenderAnswer}
 use Rattle.bin.specs.Steps.{joined, SenderSettings, SenderMove, senderTakes, senderTransmits, senderFails, senderEnded}
 
 -- ---- the beginnings: 3, 4, 5 in this order
 
+-- a sender in a state; the name stands at the front of its array
 abbrev pub senderWith : SenderState → Announce → List ℕ → ℕ → ℕ → Sender
 senderWith st announce name size block = record {
   name = appended 0 name (replicate 64 0);
   core = record { state = st; announce = announce; named = length name; size = size; block = block };
 }
 
+-- a beginning that is refused: a sender that has ended
 abbrev pub refusedBegin : Outcome → Sender
 refusedBegin o = senderWith (Ended o) Basic [] 0 0
 
+-- the limits of size (4) and block (5), once the name is within its own (3)
 abbrev pub within : Announce → List ℕ → ℕ → ℕ → Sender
 within announce name size block =
     pick (leb size 99999999)
@@ -53,6 +55,11 @@ pub record SenderAfter : Type 0 where
   pub answer : SenderAnswer
   pub reply : List ℕ
 
+-- a block is 1 to 256 bytes; no beginning gives a longer one, and it would count as 256
+abbrev pub blockOf : ℕ → ℕ
+blockOf block = pick (leb block 256) block 256
+
+-- what a sender was begun with, as `bin` has it
 abbrev pub settingsOf : Sender → SenderSettings
 settingsOf m = record {
   announce = m .core .announce;
@@ -85,27 +92,33 @@ replied m a reply = record {
   reply = over 0 (joined (a .out)) reply;
 }
 
+-- the checks of a call, with a frame of so many bytes
 abbrev pub statusOf : Sender → ℕ → List ℕ → List ℕ → Status
 statusOf m frame file reply = checkOf (senderEnded (m .core .state)) (length reply) frame (length file) (m .core .size)
 
 abbrev pub unlessRefused : Status → Sender → List ℕ → SenderAfter → SenderAfter
 unlessRefused s m reply after = unless s (λ (x : Status). refusedCall m x reply) after
 
--- leave
+-- what a call leaves that makes the move a where it is taken; frame is how many bytes have come with it
+abbrev pub answered : Sender → ℕ → List ℕ → List ℕ → SenderMove → SenderAfter
+answered m frame file reply a = unlessRefused (statusOf m frame file reply) m reply (replied m a reply)
+
+-- a chance to send (leave)
 unfoldable pub transmit : Sender → List ℕ → List ℕ → SenderAfter
-transmit m file reply =
-    unlessRefused (statusOf m 0 file reply) m reply (replied m (senderTransmits (settingsOf m) file (m .core .state)) reply)
+transmit m file reply = answered m 0 file reply (senderTransmits (settingsOf m) file (m .core .state))
 
 -- a frame has arrived
 unfoldable pub receive : Sender → List ℕ → List ℕ → List ℕ → SenderAfter
-receive m frame file reply =
-    unlessRefused (statusOf m (length frame) file reply) m reply
-    (replied m (senderTakes (settingsOf m) file (m .core .state) frame) reply)
+receive m frame file reply = answered m (length frame) file reply (senderTakes (settingsOf m) file (m .core .state) frame)
+
+-- timer or operator's stop, by its number
+abbrev pub fail : Outcome → Sender → List ℕ → List ℕ → SenderAfter
+fail o m file reply = answered m 0 file reply (senderFails o (m .core .state))
 
 -- the timer ran out
 unfoldable pub timeout : Sender → List ℕ → List ℕ → SenderAfter
-timeout m file reply = unlessRefused (statusOf m 0 file reply) m reply (replied m (senderFails TimedOut (m .core .state)) reply)
+timeout m file reply = fail TimedOut m file reply
 
 -- the operator's stop
 unfoldable pub cancel : Sender → List ℕ → List ℕ → SenderAfter
-cancel m file reply = unlessRefused (statusOf m 0 file reply) m reply (replied m (senderFails Stopped (m .core .state)) reply)
+cancel m file reply = fail Stopped m file reply

@@ -1,16 +1,24 @@
 // The #BIN# sender.
+use crate::step::SenderCore;
+use crate::step::Step;
 use bin::Announce;
 use bin::SenderState;
-use bin_frames::SenderCore;
-use bin_sending::Event;
 use calls::Outcome;
 use calls::Status;
+use fields::Limits;
+use fields::buffers;
+use fields::names;
 ghost use mathlib.Core.Path.{_≡_};
-ghost use mathlib.Core.List.{List, []};
-ghost use Prim.Native.Nat.{ℕ};
+ghost use Prim.Native.Nat.{_≤_};
 ghost use lib.ListN.{length};
-ghost use Rattle.bin_sender.specs.Sender.{refusedBegin, begin as beginOf, beginBasic, transmit as transmitOf, receive as receiveOf, timeout as timeoutOf, cancel as cancelOf};
-ghost use Rattle.bin_sender.specs.Acts.{begunBy, calledBy};
+ghost use Rattle.calls.specs.Checks.{checkOf};
+ghost use Rattle.bin.specs.Steps.{senderEnded};
+ghost use Rattle.bin_sender.specs.Sender.{refusedBegin, within as withinOf, begin as beginOf, beginBasic, replied, transmit as transmitOf, receive as receiveOf, fail as failOf, timeout as timeoutOf, cancel as cancelOf};
+ghost use Rattle.bin_sender.specs.Step.{moveBy};
+
+mod arrivals;
+mod output;
+mod step;
 
 pub struct Sender {
     name: [u8; 64],
@@ -24,106 +32,73 @@ pub struct SenderAnswer {
     pub sent: usize,
 }
 
-// A sender that has ended before it began.
-fn refused(outcome: Outcome) -> SenderCore
-    ensures { λ r. ⌜ r ≡ refusedBegin outcome .core ⌝ }
-{
-    SenderCore {
-        state: SenderState::Ended { outcome },
-        announce: Announce::Basic,
-        named: 0,
-        size: 0,
-        block: 0,
-    }
-}
-
-// The limits of name, size and block; good says whether the name is within them.
-fn begins(good: bool, announce: Announce, named: usize, size: usize, block: usize) -> SenderCore
-    ensures { λ r. ⌜ ((name : List ℕ) → length name ≡ named → r ≡ begunBy good announce name size block .core) ⌝ }
-{
-    if good {
-        if Sender::LARGEST < size {
-            return refused(Outcome::LengthOutside);
-        }
-        if block < 1 {
-            return refused(Outcome::BlockOutside);
-        }
-        if Sender::BLOCK < block {
-            return refused(Outcome::BlockOutside);
-        }
-        return SenderCore {
-            state: SenderState::Start,
-            announce,
-            named,
-            size: size as u32,
-            block,
-        };
-    }
-    refused(Outcome::NameOutside)
-}
-
-// What a call answers: it decides, and lays what is sent into the reply buffer.
-fn called(m: Sender, event: Event, frame: &[u8], file: &[u8], reply: &mut [u8]) -> SenderAnswer
-    ensures { λ r. ⌜ calledBy event m (now (frame .entry)) (now (file .entry)) (now (reply .entry)) ≡ record { answer = r; reply = now (reply .exit) } ⌝ }
-{
-    let name = m.name;
-    let core = m.core;
-    let announce = core.announce;
-    let step = bin_sending::decides(core, event, frame, file, reply.len());
-    let status = step.status;
-    let state = step.state;
-    let out = step.out;
-    let sent = bin_frames::put(core, name, out, file, reply);
-    SenderAnswer {
-        sender: Sender {
-            name,
-            core: SenderCore {
-                state,
-                announce,
-                named: core.named,
-                size: core.size,
-                block: core.block,
-            },
-        },
-        status,
-        sent,
-    }
-}
-
-// A call with which no frame comes.
-fn settled(m: Sender, event: Event, file: &[u8], reply: &mut [u8]) -> SenderAnswer
-    ensures { λ r. ⌜ calledBy event m [] (now (file .entry)) (now (reply .entry)) ≡ record { answer = r; reply = now (reply .exit) } ⌝ }
-{
-    called(m, event, b"", file, reply)
-}
-
 impl Sender {
     // The largest file.
-    pub const LARGEST: usize = 99_999_999;
+    pub const LARGEST: usize = Limits::FILE;
     // The longest block.
-    pub const BLOCK: usize = bin_frames::BLOCK;
-    // The shortest reply buffer.
-    pub const LEAST_REPLY: usize = calls::LEAST_REPLY;
+    pub const BLOCK: usize = Limits::BLOCK;
+    // The shortest reply buffer (reply room).
+    pub const LEAST_REPLY: usize = Limits::REPLY;
+
+    // A beginning that is refused: a sender that has ended.
+    fn ended(outcome: Outcome) -> Self
+        ensures { λ r. ⌜ r ≡ refusedBegin outcome ⌝ }
+    {
+        Sender {
+            name: [0; 64],
+            core: SenderCore {
+                state: SenderState::Ended { outcome },
+                announce: Announce::Basic,
+                named: 0,
+                size: 0,
+                block: 0,
+            },
+        }
+    }
+
+    // The limits of size and block, once the name is within its own.
+    fn within(announce: Announce, name: &[u8], size: usize, block: usize) -> Self
+        ensures { λ r. ⌜ r ≡ withinOf announce (now (name .entry)) size block ⌝ }
+    {
+        if Limits::FILE < size {
+            return Sender::ended(Outcome::LengthOutside);
+        }
+        if block < 1 {
+            return Sender::ended(Outcome::BlockOutside);
+        }
+        if Limits::BLOCK < block {
+            return Sender::ended(Outcome::BlockOutside);
+        }
+        let mut own = [0; 64];
+        buffers::append_bytes(&mut own, 0, name);
+        Sender {
+            name: own,
+            core: SenderCore {
+                state: SenderState::Start,
+                announce,
+                named: name.len(),
+                size: size as u32,
+                block,
+            },
+        }
+    }
 
     // A sender of an extended transfer; resumes says whether `?` is sent. One that is refused (3, 4, 5) has ended.
     pub fn begin(name: &[u8], size: usize, block: usize, stamp: u32, resumes: bool) -> Self
         ensures { λ r. ⌜ r ≡ beginOf (now (name .entry)) size block stamp resumes ⌝ }
     {
-        let announce = Announce::Extended { stamp, resumes };
-        let core = begins(names::is_name(name), announce, name.len(), size, block);
-        let mut own = [0; 64];
-        buffers::append_bytes(&mut own, 0, fields::part(name, 0, core.named));
-        Sender { name: own, core }
+        if names::is_name(name) {
+            let announce = Announce::Extended { stamp, resumes };
+            return Sender::within(announce, name, size, block);
+        }
+        Sender::ended(Outcome::NameOutside)
     }
 
     // A sender of a basic transfer, which has no name.
     pub fn begin_basic(size: usize, block: usize) -> Self
         ensures { λ r. ⌜ r ≡ beginBasic size block ⌝ }
     {
-        Sender {
-            name: [0; 64],
-            core: begins(true, Announce::Basic, 0, size, block),
-        }
+        Sender::within(Announce::Basic, b"", size, block)
     }
 
     // Where the sender stands.
@@ -134,33 +109,98 @@ impl Sender {
         core.state
     }
 
-    // A chance to send: the line first, then, once the far end has answered, a frame of the file with each call.
+    // The checks of a call, by the lengths of frame, file and reply buffer.
+    fn check(self, frame: usize, file: usize, reply: usize) -> Status
+        ensures { λ r. ⌜ r ≡ checkOf (senderEnded (self .core .state)) reply frame file (self .core .size) ⌝ }
+    {
+        let core = self.core;
+        let state = core.state;
+        let size = core.size as usize;
+        calls::check(step::is_ended(state), reply, frame, file, size)
+    }
+
+    // A refused call changes nothing.
+    fn refused(self, status: Status) -> SenderAnswer
+        ensures { λ r. ⌜ r ≡ record { sender = self; status = status; sent = 0 } ⌝ }
+    {
+        SenderAnswer {
+            sender: self,
+            status,
+            sent: 0,
+        }
+    }
+
+    // Lays what is sent into the reply buffer, and answers.
+    fn finish(self, step: Step, file: &[u8], reply: &mut [u8]) -> SenderAnswer
+        requires { ⌜ 259 ≤ length (now reply) ⌝ }
+        ensures { λ r. ⌜ replied self (moveBy self (now (file .entry)) step) (now (reply .entry)) ≡ record { answer = r; reply = now (reply .exit) } ⌝ }
+    {
+        let state = step.state;
+        let out = step.out;
+        let name = self.name;
+        let core = self.core;
+        let announce = core.announce;
+        let sent = output::put(self, out, file, reply);
+        SenderAnswer {
+            sender: Sender {
+                name,
+                core: SenderCore {
+                    state,
+                    announce,
+                    named: core.named,
+                    size: core.size,
+                    block: core.block,
+                },
+            },
+            status: Status::Taken,
+            sent,
+        }
+    }
+
+    // A chance to send (leave): the line first, then, once the far end has answered, a frame of the file with each call.
     pub fn transmit(self, file: &[u8], reply: &mut [u8]) -> SenderAnswer
         ensures { λ r. ⌜ transmitOf self (now (file .entry)) (now (reply .entry)) ≡ record { answer = r; reply = now (reply .exit) } ⌝ }
     {
-        settled(self, Event::Transmit, file, reply)
+        let status = self.check(0, file.len(), reply.len());
+        if calls::is_taken(status) {
+            return self.finish(step::transmit(self, file), file, reply);
+        }
+        self.refused(status)
     }
 
-    // A frame has arrived.
+    // An arriving frame: the far end's answer, or its stop.
     pub fn receive(self, frame: &[u8], file: &[u8], reply: &mut [u8]) -> SenderAnswer
         ensures { λ r. ⌜ receiveOf self (now (frame .entry)) (now (file .entry)) (now (reply .entry)) ≡ record { answer = r; reply = now (reply .exit) } ⌝ }
     {
-        called(self, Event::Receive, frame, file, reply)
+        let status = self.check(frame.len(), file.len(), reply.len());
+        if calls::is_taken(status) {
+            return self.finish(arrivals::receive(self, frame, file), file, reply);
+        }
+        self.refused(status)
+    }
+
+    // Timer or operator's stop, by the number that it ends with.
+    fn fail(self, outcome: Outcome, file: &[u8], reply: &mut [u8]) -> SenderAnswer
+        ensures { λ r. ⌜ failOf outcome self (now (file .entry)) (now (reply .entry)) ≡ record { answer = r; reply = now (reply .exit) } ⌝ }
+    {
+        let status = self.check(0, file.len(), reply.len());
+        if calls::is_taken(status) {
+            return self.finish(step::stops(outcome), file, reply);
+        }
+        self.refused(status)
     }
 
     // The timer ran out.
     pub fn timeout(self, file: &[u8], reply: &mut [u8]) -> SenderAnswer
         ensures { λ r. ⌜ timeoutOf self (now (file .entry)) (now (reply .entry)) ≡ record { answer = r; reply = now (reply .exit) } ⌝ }
     {
-        let outcome = Outcome::TimedOut;
-        settled(self, Event::Fail { outcome }, file, reply)
+        self.fail(Outcome::TimedOut, file, reply)
     }
 
     // The operator's stop.
     pub fn cancel(self, file: &[u8], reply: &mut [u8]) -> SenderAnswer
         ensures { λ r. ⌜ cancelOf self (now (file .entry)) (now (reply .entry)) ≡ record { answer = r; reply = now (reply .exit) } ⌝ }
     {
-        let outcome = Outcome::Stopped;
-        settled(self, Event::Fail { outcome }, file, reply)
+        self.fail(Outcome::Stopped, file, reply)
     }
 }

@@ -3,13 +3,13 @@ use mathlib.Core.Path.{_≡_, refl, ap, sym, _∙_}
 use mathlib.Core.Bool.{Bool, true, false}
 use mathlib.Core.List.{List}
 use Prim.Native.Nat.{ℕ, _≤_}
-use native.Mathlib.Omega.{arith}
 use lib.ListN.{length}
 use lib.Dec.{ltb, eqb}
 use borrow.Author.Tests.{ltb-false, eqb-true, le-ltb, eq-eqb}
 use Rattle.fields.specs.Pick.{pick}
 use Rattle.fields.specs.declared.Written.{Written}
 use Rattle.fields.specs.Buffer.{Form, formless, bytes, bytesIn, over, writtenOf, leftOf}
+use Rattle.fields.proofs.Lists.{never}
 use Rattle.fields.proofs.Buffer.{over-none}
 use Rattle.calls.specs.declared.Status.{Status}
 use Rattle.calls.specs.declared.Status.the-variants.{Taken, Over, LongFrame, SmallReply, WrongLength}
@@ -44,10 +44,10 @@ taken-room ended reply frame lent given h = go ended refl (ltb reply 259) refl (
   where
     go : (e : Bool) → ended ≡ e → (r : Bool) → ltb reply 259 ≡ r → (f : Bool) → ltb 256 frame ≡ f → (l : Bool) → eqb lent given ≡ l
         → (259 ≤ reply) × (frame ≤ 256) × (lent ≡ given)
-    go true p r q f s l t = let z : false ≡ true = rw p at h in let o : _≡_ {A = ℕ} 0 1 = cc in absurd (omega arith)
-    go false p true q f s l t = let z : false ≡ true = rw (p, q) at h in let o : _≡_ {A = ℕ} 0 1 = cc in absurd (omega arith)
-    go false p false q true s l t = let z : false ≡ true = rw (p, q, s) at h in let o : _≡_ {A = ℕ} 0 1 = cc in absurd (omega arith)
-    go false p false q false s false t = let z : false ≡ true = rw (p, q, s, t) at h in let o : _≡_ {A = ℕ} 0 1 = cc in absurd (omega arith)
+    go true p r q f s l t = never (rw p at h)
+    go false p true q f s l t = never (rw (p, q) at h)
+    go false p false q true s l t = never (rw (p, q, s) at h)
+    go false p false q false s false t = never (rw (p, q, s, t) at h)
     go false p false q false s true t = (ltb-false reply 259 q, ltb-false 256 frame s, eqb-true lent given t)
 
 -- it is at an end that has not ended
@@ -65,9 +65,6 @@ check-taken reply frame lent given e r f l = rw (e, le-ltb reply 259 r, le-ltb 2
 -- what a call knows that asked for its status and whether it is taken
 pub taken-by : {s t : Status} {b x : Bool} → s ≡ t → b ≡ isTaken s → b ≡ x → isTaken t ≡ x
 taken-by p q r = ap isTaken (sym p) ∙ sym q ∙ r
-
-never : {A : Type 0} → false ≡ true → A
-never h = absurd (let z : _≡_ {A = ℕ} 0 1 = cc h in omega arith)
 
 module _ {A : Type 0} (refused : Status → A) (does : A) where
   pub unless-taken : (s : Status) → isTaken s ≡ true → unless s refused does ≡ does

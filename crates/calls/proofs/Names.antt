@@ -1,21 +1,16 @@
 -- A name that stands at the front of an array, kept there. Assumes nothing.
-use mathlib.Core.Path.{_≡_, refl, ap}
-use mathlib.Core.Bool.{Bool, true, false}
+use mathlib.Core.Path.{_≡_, refl, sym, ap}
 use mathlib.Core.List.{List, [], _∷_, _++_}
 use Prim.Native.Nat.{ℕ, zero, suc, _+_}
 use native.Mathlib.Nat.{zero-add}
 use lib.ListN.{length, take, drop}
 use lib.Dec.{leb}
-use Rattle.fields.specs.Pick.{pick}
 use Rattle.fields.specs.Buffer.{over, appended}
+use Rattle.fields.proofs.Lists.{either}
+use Rattle.fields.proofs.Buffer.{append-none}
 use Rattle.calls.specs.declared.Keeping.{Keeping}
 use Rattle.calls.specs.declared.Keeping.the-variants.{Nothing, Of}
 use Rattle.calls.specs.Saving.{savedBy, keepingOf, nameOf}
-
--- either way the same
-pub either-way : {A : Type 0} (b : Bool) (x y z : A) → x ≡ z → y ≡ z → pick b x y ≡ z
-either-way true x y z p q = p
-either-way false x y z p q = q
 
 front : (n : ℕ) (s : List ℕ) → take n s ++ drop (length (take n s)) s ≡ s
 front zero s = refl
@@ -29,11 +24,10 @@ take-count (suc n) (x ∷ s) = ap (λ (l : List ℕ). x ∷ l) (take-count n s)
 
 pub keep-front : (n : ℕ) (s : List ℕ) → appended 0 (take n s) s ≡ s
 unfolding appended over
-keep-front n s = either-way (leb (0 + length (take n s)) (length s)) (over 0 (take n s) s) s s (rw (zero-add (length (take n s))) (front n s)) refl
+keep-front n s = either (λ (l : List ℕ). l ≡ s) (leb (0 + length (take n s)) (length s)) (over 0 (take n s) s) s (λ h. rw (zero-add (length (take n s))) (front n s)) (λ h. refl)
 
 pub keep-none : (s : List ℕ) → appended 0 [] s ≡ s
-unfolding appended over
-keep-none s = either-way (leb 0 (length s)) s s s refl refl
+keep-none s = sym (append-none 0 s .1)
 
 -- the record's own name, laid over the array where it stands
 pub keep-own : (k : Keeping) (name : List ℕ) → appended 0 (nameOf (savedBy k name)) name ≡ name

@@ -2,7 +2,7 @@
 use Prim.Native.Nat.{ℕ}
 use mathlib.Core.List.{List}
 use mathlib.Core.Option.{Option, none, some}
-use Rattle.fields.specs.Buffer.{Form, writtenOf, leftOf, numberOf}
+use Rattle.fields.specs.Buffer.{Form, writtenOf, leftOf, writtenNumber}
 use Rattle.calls.specs.declared.RecordAnswer.{RecordAnswer}
 use Rattle.calls.specs.declared.RecordAnswer.the-variants.{NoRecord, Record}
 
@@ -19,4 +19,4 @@ recordLeft (some f) d = leftOf 81 f d
 -- document 01's number for each answer: 20 buffer small, 22 cannot be written
 unfoldable pub recordNumber : RecordAnswer → ℕ
 recordNumber NoRecord = 0
-recordNumber (Record w) = numberOf w
+recordNumber (Record w) = writtenNumber w

@@ -6,7 +6,6 @@ use mathlib.Core.Option.{Option, none, some}
 use lib.ListN.{length, take}
 use lib.Dec.{leb, eqb}
 use Rattle.fields.specs.Lists.{same}
-use Rattle.fields.specs.declared.Stamp.{Stamp}
 use Rattle.fields.specs.Buffer.{Form}
 use Rattle.records.specs.Saved.{Saved, recordForm}
 use Rattle.calls.specs.declared.Entry.{Entry}

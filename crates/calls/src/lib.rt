@@ -1,4 +1,5 @@
 // What the calls of every sender and receiver have in common.
+use fields::Limits;
 use fields::Stamp;
 use fields::Written;
 ghost use mathlib.Core.Path.{_≡_};
@@ -6,13 +7,8 @@ ghost use Rattle.calls.specs.Numbers.{statusNumber};
 ghost use Rattle.calls.specs.Checks.{checkOf, checkNumber, isTaken};
 ghost use Rattle.calls.specs.Count.{countOf};
 
-// The least reply buffer, and the longest frame.
-pub const LEAST_REPLY: usize = 259;
-
-pub const LONGEST_FRAME: usize = 256;
-
-// The least buffer that a record is written into.
-pub const LEAST_RECORD: usize = 81;
+pub mod outcomes;
+pub mod saving;
 
 // How an end ended. The first number stays through CW. A beginning that is refused (1 to 5) gives an end that has ended.
 pub enum Outcome {
@@ -97,10 +93,10 @@ pub fn check(ended: bool, reply: usize, frame: usize, lent: usize, given: usize)
     if ended {
         return Status::Over;
     }
-    if reply < LEAST_REPLY {
+    if reply < Limits::REPLY {
         return Status::SmallReply;
     }
-    if LONGEST_FRAME < frame {
+    if Limits::FRAME < frame {
         return Status::LongFrame;
     }
     if lent == given {

@@ -1,4 +1,4 @@
--- Laws of the CRC, for the crates above: over two pieces, its bound, the worked examples; and those of the loop.
+-- Laws of the CRC, for the crates above: over two pieces, its bound; and those of the loop.
 -- Assumes nothing.
 use mathlib.Core.Path.{_≡_, refl, ap, _∙_}
 use mathlib.Core.List.{List, [], _∷_, _++_}
@@ -64,8 +64,3 @@ walk-lt r (c ∷ s) h b = walk-lt (byteStep r c) s (step-lt r c (b 0)) (λ i. b 
 
 pub crc-lt : (s : List ℕ) → ((i : ℕ) → getD s i 0 < 256) → crcOf s < 2 ^ 16
 crc-lt s b = walk-lt 0 s (lit< tt) b
-
--- the worked examples of document 01: nothing, A, AB, ABC
-pub examples : (crcOf [] ≡ 0) × (crcOf (65 ∷ []) ≡ 65) × (crcOf (65 ∷ 66 ∷ []) ≡ 16706) × (crcOf (65 ∷ 66 ∷ 67 ∷ []) ≡ 6822)
-unfolding walkFrom byteStep remainder reduced
-examples = (refl, refl, refl, refl)

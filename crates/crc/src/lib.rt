@@ -2,7 +2,7 @@
 ghost use mathlib.Core.Path.{_≡_};
 ghost use Rattle.crc.specs.Crc.{entry, table, byteStep, walkFrom, crcOf};
 
-// Source document 003's table: entry i is the remainder of i times x^16 by x^16 + x^12 + x^5 + 1. The program `crc_table` prints it in that
+// Source document 003's table: entry i is the remainder of i times x^16 by x^16 + x^12 + x^5 + 1. The program `run_crc` prints it in that
 // document's layout.
 const TABLE: [u16; 256] = [
     0x0000,

@@ -1,8 +1,9 @@
 -- The laws of bytes laid over a buffer. Assumes nothing.
 use mathlib.Core.Path.{_≡_, refl, sym, ap, _∙_}
+use mathlib.Core.Bool.{Bool, true, false}
 use mathlib.Core.List.{List, [], _∷_, _++_, append-assoc, append-nil}
 use mathlib.Core.Logic.{⊎-elim}
-use Prim.Native.Nat.{ℕ, suc, _+_, _-_, _≤_, _<_, zero-le}
+use Prim.Native.Nat.{ℕ, _+_, _-_, _≤_, _<_, zero-le}
 use native.Mathlib.Nat.{zero-add, add-zero}
 use native.Mathlib.Numerals.{add-one}
 use native.Mathlib.Omega.{arith}
@@ -12,23 +13,23 @@ use borrow.Rule.Slice.PartMut.{midOf, putMid, put-same}
 use borrow.Author.Tests.{le-leb, lt-leb, lt-ltb, le-ltb}
 use Rattle.fields.proofs.Lists.{le-or-lt}
 use Rattle.fields.specs.declared.Written.the-variants.{Bytes, Small, Formless}
-use Rattle.fields.specs.Buffer.{over, placed, placedCount, appended, appendedEnd, Form, formless, bytes, writtenOf, leftOf}
+use Rattle.fields.specs.Buffer.{over, placed, placedCount, appended, appendedEnd, Form, formless, bytes, formIf, writtenOf, leftOf}
 
 pub placed-fits : (bs d : List ℕ) → length bs ≤ length d → placed bs d ≡ over 0 bs d
-unfolding placed
-placed-fits bs d h = simp (le-leb _ _ h)
+unfolding appended
+placed-fits bs d h = simp (le-leb (0 + length bs) (length d) (omega arith))
 
 pub placed-short : (bs d : List ℕ) → length d < length bs → placed bs d ≡ d
-unfolding placed
-placed-short bs d h = simp (lt-leb _ _ h)
+unfolding appended
+placed-short bs d h = simp (lt-leb (0 + length bs) (length d) (omega arith))
 
 pub count-fits : (bs d : List ℕ) → length bs ≤ length d → placedCount bs d ≡ length bs
-unfolding placedCount
-count-fits bs d h = simp (le-leb _ _ h)
+unfolding appendedEnd
+count-fits bs d h = simp (le-leb (0 + length bs) (length d) (omega arith)) (zero-add (length bs))
 
 pub count-short : (bs d : List ℕ) → length d < length bs → placedCount bs d ≡ 0
-unfolding placedCount
-count-short bs d h = simp (lt-leb _ _ h)
+unfolding appendedEnd
+count-short bs d h = simp (lt-leb (0 + length bs) (length d) (omega arith))
 
 -- the buffer keeps its length
 pub length-over : (at : ℕ) (bs d : List ℕ) → at + length bs ≤ length d → length (over at bs d) ≡ length d
@@ -117,21 +118,12 @@ pub over-all : (bs d : List ℕ) → length bs ≡ length d → over 0 bs d ≡ 
 unfolding over
 over-all bs d h = ap (λ (l : List ℕ). bs ++ l) (drop-of-length-le d {i = 0 + length bs} (omega arith)) ∙ append-nil bs
 
--- bytes from index 2 on, and then the two before them: a byte a and the count
-pub lead-over : (a l : ℕ) (bs d e : List ℕ) → 2 ≤ length d → e ≡ over 2 bs d → l ≡ length bs → set (set e 0 a) 1 l ≡ over 0 (a ∷ length bs ∷ bs) d
-unfolding over
-lead-over a l bs [] e h q w = absurd (omega arith)
-lead-over a l bs (x ∷ []) e h q w = absurd (omega arith)
-lead-over a l bs (x ∷ y ∷ d) e h q w =
-    let s : 2 + length bs ≡ 0 + suc (suc (length bs)) = omega arith in
-    rw (q, s, w)
-
 pub part-over : (n k : ℕ) (bs p d : List ℕ) → length bs ≤ k → n + k ≤ length d → p ≡ over 0 bs (midOf n k d) → putMid n k d p ≡ over n bs d
 part-over n k bs p d h g q =
     let r : k ≤ length (drop n d) = simp length-drop (omega arith) in
     ap (putMid n k d) q ∙ ap (λ (x : List ℕ). take n d ++ x) (over-prefix 0 k bs (drop n d) (omega arith) r) ∙ over-part n bs d
 
--- A buffer d of which the first n bytes are a by now, as a writer has it after some steps: e is the buffer. Each step lays more down.
+-- A buffer d of which the first n bytes are a by now, as a writer has it after some steps: e is the buffer
 module _ (a d e : List ℕ) (n : ℕ) (so-far : e ≡ over 0 a d) (count : length a ≡ n) where
   pub grown-length : n ≤ length d → length e ≡ length d
   grown-length h = ap length so-far ∙ length-over 0 a d (omega arith)
@@ -141,30 +133,6 @@ module _ (a d e : List ℕ) (n : ℕ) (so-far : e ≡ over 0 a d) (count : lengt
   grow-set v h =
       let l = grown-length (omega arith) in
       set-over e n v (omega arith) ∙ ap (over n (v ∷ [])) so-far ∙ over-over 0 n a (v ∷ []) d (omega arith) (omega arith)
-
-  -- the k bytes from n on are lent, and bs is laid over their beginning: p is what they then are. The checker writes such a loan's
-  -- list as `midOf` and the whole after it as `putMid` (borrow.Rule.Slice.PartMut)
-  module _ (k : ℕ) (bs : List ℕ) (short : length bs ≤ k) (inside : n + k ≤ length d) where
-    mid : length (midOf n k e) ≡ k
-    mid = let l = grown-length (omega arith) in simp (length-take, length-drop) (omega arith)
-
-    pub grow-count : (r : ℕ) → r ≡ placedCount bs (midOf n k e) → r ≡ length bs
-    grow-count r q = q ∙ count-fits bs (midOf n k e) (rw mid short)
-
-    pub grow-over : (p : List ℕ) → p ≡ over 0 bs (midOf n k e) → putMid n k e p ≡ over 0 (a ++ bs) d
-    grow-over p q =
-        let l = grown-length (omega arith) in
-        let r : k ≤ length (drop n e) = simp length-drop (omega arith) in
-        ap (putMid n k e) q
-        ∙ ap (λ (x : List ℕ). take n e ++ x) (over-prefix 0 k bs (drop n e) (omega arith) r)
-        ∙ over-part n bs e ∙ ap (over n bs) so-far ∙ over-over 0 n a bs d (omega arith) (omega arith)
-
-    pub grow-part : (p : List ℕ) → p ≡ placed bs (midOf n k e) → putMid n k e p ≡ over 0 (a ++ bs) d
-    grow-part p q = grow-over p (q ∙ placed-fits bs (midOf n k e) (rw mid short))
-
-    -- where all k bytes are replaced
-    pub grow-whole : (p : List ℕ) → length bs ≡ k → p ≡ bs → putMid n k e p ≡ over 0 (a ++ bs) d
-    grow-whole p f q = grow-over p (q ∙ sym (over-all bs (midOf n k e) (f ∙ sym mid)))
 
 -- What each writer at an index owes. The part of d from at on was lent: k is its length, and p what it then is
 module _ (at : ℕ) (bs d : List ℕ) where
@@ -192,6 +160,18 @@ module _ (at : ℕ) (bs d : List ℕ) where
       ))
       (le-or-lt (at + length bs) (length d))
 
+-- nothing laid down
+pub append-none : (at : ℕ) (d : List ℕ) → (at ≡ appendedEnd at [] d) × (d ≡ appended at [] d)
+unfolding over
+append-none at d = ⊎-elim
+    (λ (h : at + 0 ≤ length d). let f = append-fits at [] d h in (sym (add-zero at) ∙ f .0, sym (rw (add-zero at) (take-append-drop at d)) ∙ f .1))
+    (λ (h : length d < at + 0). append-short at [] d h)
+    (le-or-lt (at + 0) (length d))
+
+-- what a writer that lays bs down at the index n of the buffer e gave: the index r and the buffer f
+abbrev pub Laid : ℕ → List ℕ → List ℕ → ℕ → List ℕ → Type 0
+Laid n bs e r f = (r ≡ appendedEnd n bs e) × (f ≡ appended n bs e)
+
 -- A buffer d of which the first n bytes are a by now: e is the buffer
 pub record Grown (a d e : List ℕ) (n : ℕ) : Type 0 where
   pub bytes : e ≡ over 0 a d
@@ -201,8 +181,7 @@ pub grown-none : (d : List ℕ) → Grown [] d d 0
 grown-none d = record { bytes = sym (over-none d); count = refl }
 
 -- one more writer at the index
-pub grown : {a d e : List ℕ} {n : ℕ} → Grown a d e n → (bs e′ : List ℕ) (r : ℕ) → n + length bs ≤ length d
-    → (r ≡ appendedEnd n bs e) × (e′ ≡ appended n bs e) → Grown (a ++ bs) d e′ r
+pub grown : {a d e : List ℕ} {n : ℕ} → Grown a d e n → (bs e′ : List ℕ) (r : ℕ) → n + length bs ≤ length d → Laid n bs e r e′ → Grown (a ++ bs) d e′ r
 grown {a} {d} {e} {n} g bs e′ r h q =
     let l : length e ≡ length d = grown-length a d e n (g .bytes) (sym (g .count)) (omega arith) in
     let f = append-fits n bs e (omega arith) in
@@ -210,6 +189,21 @@ grown {a} {d} {e} {n} g bs e′ r h q =
       bytes = q .1 ∙ sym (f .1) ∙ ap (over n bs) (g .bytes) ∙ over-over 0 n a bs d (omega (arith, g .count)) h;
       count = q .0 ∙ sym (f .0) ∙ simp length-append (omega (arith, g .count));
     }
+
+-- the same where the first n bytes are at most m
+pub record So (m : ℕ) (a d e : List ℕ) (n : ℕ) : Type 0 where
+  pub far : Grown a d e n
+  pub most : length a ≤ m
+
+pub begin : (d : List ℕ) → So 0 [] d d 0
+begin d = record { far = grown-none d; most = omega arith }
+
+-- one more writer, of at most k bytes
+pub lay : {m : ℕ} {a d e : List ℕ} {n : ℕ} → So m a d e n → (k : ℕ) (bs f : List ℕ) (r : ℕ) → length bs ≤ k → m + k ≤ length d → Laid n bs e r f
+    → So (m + k) (a ++ bs) d f r
+lay {m} {a} {d} {e} {n} s k bs f r h g q =
+    let c : n ≡ length a = s .far .count in
+    record { far = grown (s .far) bs f r (omega (arith, c, s .most)) q; most = simp length-append (omega (arith, s .most)) }
 
 pub count-le : (bs d : List ℕ) → placedCount bs d ≤ length d
 count-le bs d = ⊎-elim (λ h. rw (count-fits bs d h) h) (λ h. rw (count-short bs d h) zero-le) (le-or-lt (length bs) (length d))
@@ -227,6 +221,14 @@ append-whole at w f p d h l q =
 -- what a writer owes in the end
 pub grown-is : {a d e : List ℕ} {n : ℕ} (b : List ℕ) → Grown a d e n → a ≡ b → (n ≡ length b) × (e ≡ over 0 b d)
 grown-is {a} {d} b g q = (g .count ∙ ap length q, g .bytes ∙ ap (λ (l : List ℕ). over 0 l d) q)
+
+pub formless-not : {A : Type 0} (bs : List ℕ) → formless ≡ bytes bs → A
+formless-not bs e = let z : _≡_ {A = ℕ} 0 1 = cc in absurd (omega arith)
+
+-- what has bytes by a test passed it
+pub form-is : (t : Bool) (s bs : List ℕ) → formIf t s ≡ bytes bs → (t ≡ true) × (s ≡ bs)
+form-is true s bs h = let e : s ≡ bs = cc in (refl, e)
+form-is false s bs h = formless-not bs h
 
 -- What a writer answers, and the buffer it leaves: too small a buffer, no form, and the bytes written
 module _ (least : ℕ) (f : Form) (d : List ℕ) where

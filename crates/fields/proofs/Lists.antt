@@ -1,16 +1,17 @@
 -- Laws of the words about lists. A loop over a slice cites the law of one turn, at the place i of the list s, and that of the end.
 -- Assumes nothing.
 use mathlib.Core.Path.{_≡_, refl, sym, ap, _∙_}
-use mathlib.Core.Bool.{Bool, true, false, not, _&&_}
+use mathlib.Core.Bool.{Bool, true, false, not, _&&_, false≢true}
 use mathlib.Core.Logic.{_⊎_, inl, inr, ⊎-elim}
 use mathlib.Core.List.{List, [], _∷_, _++_, append-nil}
 use Prim.Native.Nat.{ℕ, zero, suc, _+_, _-_, _≤_, _<_, zero-le, suc-le-suc}
 use native.Mathlib.Numerals.{add-one}
 use native.Mathlib.Omega.{arith}
 use lib.ListN.{length, take, drop, getD, length-append, length-take, length-drop, drop-of-length-le}
-use lib.Seq.{drop-cons, drop-append-add, take-all, take-nil, take-length}
+use lib.Seq.{drop-cons, drop-append-add, take-all, take-nil}
 use lib.Dec.{leb, eqb}
 use borrow.Author.Tests.{le-leb, leb-true, eq-eqb, ne-eqb, eqb-true, eqb-false}
+use Rattle.fields.specs.Pick.{pick}
 use Rattle.fields.specs.Lists.{all, upTo, same}
 use Rattle.fields.specs.Name.{isNameByte, isName}
 
@@ -26,9 +27,17 @@ eq-or-not a b = go (eqb a b) refl
     go true e = inl (eqb-true a b e)
     go false e = inr (eqb-false a b e)
 
+pub never : {A : Type 0} → false ≡ true → A
+never e = absurd (false≢true e)
+
 pub both : (a b : Bool) → (a && b) ≡ true → (a ≡ true) × (b ≡ true)
 both true b h = (refl, h)
-both false b h = let z : _≡_ {A = ℕ} 0 1 = cc in absurd (omega arith)
+both false b h = never h
+
+-- what holds of both answers of a test holds of the answer
+pub either : {A : Type 0} (P : A → Type 0) (b : Bool) (x y : A) → (b ≡ true → P x) → (b ≡ false → P y) → P (pick b x y)
+either P true x y f g = f refl
+either P false x y f g = g refl
 
 -- what a loop passes
 pub drop-one : (s : List ℕ) (i : ℕ) → i < length s → drop i s ≡ getD s i 0 ∷ drop (i + 1) s
@@ -70,11 +79,11 @@ same-refl (x ∷ s) = rw (eq-eqb x x refl) (same-refl s)
 pub same-eq : (s t : List ℕ) → same s t ≡ true → s ≡ t
 unfolding same
 same-eq [] [] h = refl
-same-eq [] (y ∷ t) h = let z : _≡_ {A = ℕ} 0 1 = cc in absurd (omega arith)
-same-eq (x ∷ s) [] h = let z : _≡_ {A = ℕ} 0 1 = cc in absurd (omega arith)
+same-eq [] (y ∷ t) h = never h
+same-eq (x ∷ s) [] h = never h
 same-eq (x ∷ s) (y ∷ t) h =
     ⊎-elim (λ e. let q = same-eq s t (rw (eq-eqb x y e) at h) in cc)
-    (λ e. let q : false ≡ true = rw (ne-eqb x y e) at h in let z : _≡_ {A = ℕ} 0 1 = cc in absurd (omega arith))
+    (λ e. never (rw (ne-eqb x y e) at h))
     (eq-or-not x y)
 
 pub same-length : (s t : List ℕ) → (length s ≡ length t → ⊥) → same s t ≡ false
@@ -115,19 +124,7 @@ take-upTo x s n e = ap (λ (k : ℕ). take k s) e ∙ front s
 pub upTo-le : (x : ℕ) (s : List ℕ) → length (upTo x s) ≤ length s
 upTo-le x s = omega (arith, simp length-take at (ap length (take-upTo x s (length (upTo x s)) refl)))
 
--- nothing is cut
-pub upTo-all : (x : ℕ) (s : List ℕ) → length (upTo x s) ≡ length s → upTo x s ≡ s
-upTo-all x s h = sym (take-upTo x s (length s) (sym h)) ∙ take-length s
-
-pub upTo-upTo : (x : ℕ) (s : List ℕ) → upTo x (upTo x s) ≡ upTo x s
-unfolding upTo
-upTo-upTo x [] = refl
-upTo-upTo x (c ∷ s) =
-    ⊎-elim (λ h. rw (upTo-here x c s h))
-    (λ h. rw (upTo-next x c s h, upTo-next x c (upTo x s) h) (ap (λ (l : List ℕ). c ∷ l) (upTo-upTo x s)))
-    (eq-or-not c x)
-
--- something is
+-- something is cut
 pub upTo-cut : (x : ℕ) (s : List ℕ) → length (upTo x s) < length s → s ≡ upTo x s ++ (x ∷ drop (length (upTo x s) + 1) s)
 unfolding upTo
 upTo-cut x [] h = absurd (omega arith)

@@ -12,14 +12,6 @@ use Rattle.fields.specs.declared.Written.the-variants.{Bytes, Small, For
 unfoldable pub over : ℕ → List ℕ → List ℕ → List ℕ
 over at bs d = take at d ++ (bs ++ drop (at + length bs) d)
 
--- d with bs in the place of its first bytes where bs fits, else d
-unfoldable pub placed : List ℕ → List ℕ → List ℕ
-placed bs d = pick (leb (length bs) (length d)) (over 0 bs d) d
-
--- how many bytes that lays down
-unfoldable pub placedCount : List ℕ → List ℕ → ℕ
-placedCount bs d = pick (leb (length bs) (length d)) (length bs) 0
-
 -- d with bs in the place of its bytes from index at on where that fits, else d
 unfoldable pub appended : ℕ → List ℕ → List ℕ → List ℕ
 appended at bs d = pick (leb (at + length bs) (length d)) (over at bs d) d
@@ -27,6 +19,13 @@ appended at bs d = pick (leb (at + length bs) (length d)) (over at bs d) d
 -- the index behind them, or at
 unfoldable pub appendedEnd : ℕ → List ℕ → List ℕ → ℕ
 appendedEnd at bs d = pick (leb (at + length bs) (length d)) (at + length bs) at
+
+-- the same from the first byte on, and how many bytes that lays down
+abbrev pub placed : List ℕ → List ℕ → List ℕ
+placed = appended 0
+
+abbrev pub placedCount : List ℕ → List ℕ → ℕ
+placedCount = appendedEnd 0
 
 -- the bytes of what is to be written, or none where it has no form
 pub data Form : Type 0 where
@@ -59,7 +58,7 @@ unfoldable pub leftOf : ℕ → Form → List ℕ → List ℕ
 leftOf least f d = pick (ltb (length d) least) d (bufferOf f d)
 
 -- document 01's number for each answer: 20 reply buffer small, 22 cannot be written
-unfoldable pub numberOf : Written → ℕ
-numberOf (Bytes n) = 0
-numberOf Small = 20
-numberOf Formless = 22
+unfoldable pub writtenNumber : Written → ℕ
+writtenNumber (Bytes n) = 0
+writtenNumber Small = 20
+writtenNumber Formless = 22

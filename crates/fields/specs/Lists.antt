@@ -15,6 +15,10 @@ part from count s = take count (drop from s)
 abbrev pub bytesAt : List ℕ → Place → List ℕ
 bytesAt s p = part (p .start) (p .len) s
 
+-- where nothing stands
+abbrev pub nowhere : Place
+nowhere = record { start = 0; len = 0 }
+
 -- f holds of every element
 unfoldable pub all : (ℕ → Bool) → List ℕ → Bool
 all f [] = true

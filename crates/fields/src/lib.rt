@@ -1,8 +1,11 @@
-// The words that packets, lines and records share: places, stamps, parts of a slice; and in specs/ file names and bytes laid into a lent buffer.
+// What packets, lines and records share: places, stamps, limits, parts of a slice; file names; bytes written into a lent buffer.
 ghost use mathlib.Core.Path.{_≡_};
 ghost use Prim.Native.Nat.{_≤_};
 ghost use lib.ListN.{length, getD};
 ghost use Rattle.fields.specs.Lists.{part as partOf, bytesAt, upTo};
+
+pub mod buffers;
+pub mod names;
 
 // What a writer answers: how many bytes it wrote, or why it wrote none.
 pub enum Written {
@@ -24,6 +27,24 @@ pub enum Stamp {
     // The DOS date times 65,536 plus the time.
     Present(u32),
     Absent,
+}
+
+// The limits of document 01.
+pub struct Limits {}
+
+impl Limits {
+    // The longest file name.
+    pub const NAME: usize = 64;
+    // The largest file.
+    pub const FILE: usize = 99_999_999;
+    // The longest block of a file that is sent at once.
+    pub const BLOCK: usize = 256;
+    // The longest frame.
+    pub const FRAME: usize = 256;
+    // The shortest reply buffer (document 01: reply room).
+    pub const REPLY: usize = 259;
+    // The shortest buffer that a record is written into.
+    pub const RECORD: usize = 81;
 }
 
 // The byte of s at index i; 0 past the end.

@@ -1,3 +1,3 @@
--- Laws of writing, which this crate's proofs cite.
-pub mod Forms
-pub mod Laying
+-- Laws that the proofs of this crate cite.
+mod Forms
+mod Laying

@@ -7,26 +7,14 @@ use native.Mathlib.Omega.{arith}
 use lib.ListN.{length, getD, take, drop, length-append, length-drop, take-append-drop, drop-of-length-le}
 use lib.Seq.{split-at, take-append-seam, getD-append-seam, getD-append-add, getD-at, take-at, drop-at}
 use lib.Dec.{eqb}
-use borrow.Author.Tests.{lt-ltb, le-ltb, ltb-true, ltb-false, eq-eqb, ne-eqb, eqb-true}
+use borrow.Author.Tests.{lt-ltb, le-ltb, ltb-true, eq-eqb, ne-eqb, eqb-true}
 use Rattle.fields.specs.Pick.{pick}
 use Rattle.fields.specs.Lists.{bytesAt, upTo}
-use Rattle.fields.proofs.Lists.{same-refl, same-eq, upTo-le, upTo-all, upTo-cut, cut-before, cut-inside, cut-behind}
+use Rattle.fields.proofs.Lists.{never, same-eq, upTo-cut, cut-before, cut-inside, cut-behind}
 use Rattle.lines.specs.Frame.{starts, ends, body, hasHash, behind, marked, hasResume, stampDigits}
 use Rattle.lines.specs.Element.{resumeMark}
 
-pub never : {A : Type 0} → true ≡ false → A
-never e = let z : _≡_ {A = ℕ} 0 1 = cc in absurd (omega arith)
-
--- what holds of both answers of a test holds of the answer
-pub either : {A : Type 0} (P : A → Type 0) (b : Bool) (x y : A) → (b ≡ true → P x) → (b ≡ false → P y) → P (pick b x y)
-either P true x y f g = f refl
-either P false x y f g = g refl
-
 -- ---- Marks and the final `\r`
-
-pub starts-front : (m s : List ℕ) → starts m (m ++ s) ≡ true
-unfolding starts
-starts-front m s = rw (take-append-seam m s) (same-refl m)
 
 pub starts-is : (m b : List ℕ) → starts m b ≡ true → b ≡ m ++ drop (length m) b
 unfolding starts
@@ -53,7 +41,7 @@ snoc-last u h =
 -- behind a mark that does not itself end with `\r`
 ends-behind : (m u : List ℕ) → ends m ≡ false → ends (m ++ u) ≡ true → u ≡ take (length u - 1) u ++ (13 ∷ [])
 unfolding ends
-ends-behind m [] n e = never (sym (rw (append-nil m) at e) ∙ n)
+ends-behind m [] n e = never (sym n ∙ (rw (append-nil m) at e))
 ends-behind m (c ∷ u) n e =
     let k : length (m ++ (c ∷ u)) - 1 ≡ length m + (length (c ∷ u) - 1) = simp length-append (omega arith) in
     let g : getD (c ∷ u) (length (c ∷ u) - 1) 0 ≡ 13 =
@@ -98,14 +86,10 @@ pub hash-split : (t : List ℕ) → hasHash t ≡ true → t ≡ upTo 35 t ++ (3
 unfolding hasHash behind
 hash-split t h = upTo-cut 35 t (ltb-true _ _ h)
 
-pub hash-free : (t : List ℕ) → hasHash t ≡ false → upTo 35 t ≡ t
-unfolding hasHash
-hash-free t h = upTo-all 35 t (omega (arith, upTo-le 35 t, ltb-false (length (upTo 35 t)) (length t) h))
-
 none : {A : Type 0} (b : Bool) → pick b (hasHash []) false ≡ true → A
 unfolding hasHash upTo
-none true e = never (sym e)
-none false e = never (sym e)
+none true e = never e
+none false e = never e
 
 pub marked-split : (x : ℕ) (t : List ℕ) → marked x t ≡ true → t ≡ x ∷ (upTo 35 (drop 1 t) ++ (35 ∷ behind (drop 1 t)))
 unfolding marked
@@ -114,7 +98,7 @@ marked-split x (c ∷ s) h = go (eqb c x) refl h
   where
     go : (b : Bool) → eqb c x ≡ b → pick b (hasHash s) false ≡ true → c ∷ s ≡ x ∷ (upTo 35 s ++ (35 ∷ behind s))
     go true q e = let i = eqb-true c x q in let j = hash-split s e in cc
-    go false q e = never (sym e)
+    go false q e = never e
 
 -- ---- The stamp and `?`
 

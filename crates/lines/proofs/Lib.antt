@@ -1,6 +1,5 @@
--- Laws of the definitions of specs/, which this crate's proofs and its callers' cite.
-pub mod Fields
-pub mod Reading
+-- The theorems of reading and writing, and the laws that they and this crate's proofs cite.
+mod Fields
+mod Reading
 pub mod RoundTrip
 pub mod Limits
-pub mod Examples

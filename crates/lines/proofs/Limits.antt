@@ -14,7 +14,7 @@ use Rattle.fields.specs.Name.{isName}
 use Rattle.fields.specs.Buffer.{bytes}
 use Rattle.fields.proofs.Lists.{same-eq, name-length}
 use Rattle.numbers.proofs.Reading.{size-below, crc-below, hex-below}
-use Rattle.numerals.proofs.Writing.{hex-length}
+use Rattle.numbers.proofs.numerals.Writing.{hex-length}
 use Rattle.numbers.proofs.RoundTrip.{decimal-length}
 use Rattle.lines.specs.declared.Frame.{Frame}
 use Rattle.lines.specs.Frame.{lineMark, okMark, noMark, stopFrame, displayMark, starts, frameOf}
@@ -60,15 +60,15 @@ limits b = go (frameOf b) (seen b)
 
 -- ---- What is written
 
+pub mark-short : (r : Bool) → length (resumeMark r) ≤ 1
+mark-short true = omega arith
+mark-short false = omega arith
+
 -- THE LAW: what is written is a frame of 1 to 256 bytes
 pub lengths : (c : Element) (bs : List ℕ) → formOf c ≡ bytes bs → (1 ≤ length bs) × (length bs ≤ 256)
 unfolding basicBytes lineBytes okBytes keptBytes noBytes
 lengths c bs h = go c (made c bs h)
   where
-    mark : (r : Bool) → length (resumeMark r) ≤ 1
-    mark true = omega arith
-    mark false = omega arith
-
     go : (c : Element) → Made bs c → (1 ≤ length bs) × (length bs ≤ 256)
     go _ (fromBasic n l e) =
         let d = decimal-length 7 n (omega arith) (omega arith) in
@@ -77,7 +77,7 @@ lengths c bs h = go c (made c bs h)
         let d = decimal-length 7 n (omega arith) (omega arith) in
         let c = decimal-length 4 k (omega arith) (omega arith) in
         let s = name-length name i in
-        rw e (omega arith, simp length-append (omega (arith, hex-length 8 v, mark r)))
+        rw e (omega arith, simp length-append (omega (arith, hex-length 8 v, mark-short r)))
     go _ (fromOK e) = rw e (omega arith, omega arith)
     go _ (fromNamed name i e) = let s = name-length name i in rw e (omega arith, simp length-append (omega arith))
     go _ (fromKept name n k i l m e) =

@@ -14,7 +14,7 @@ use Rattle.numbers.specs.declared.Number.the-variants.{Value, Malformed}
 use Rattle.fields.specs.Lists.{bytesAt, upTo, same}
 use Rattle.fields.specs.Name.{isNameByte, isName}
 use Rattle.numbers.specs.Reading.{radix, hexDigit, readSize, readCrc, readHex}
-use Rattle.fields.proofs.Lists.{same-eq, free-snoc, cut-before, name-length, name-free}
+use Rattle.fields.proofs.Lists.{either, same-eq, free-snoc, cut-before, name-length, name-free}
 use Rattle.numbers.proofs.Reading.{value-without, decimal-without, crc-form, hex-form}
 use Rattle.lines.specs.declared.Frame.{Frame}
 use Rattle.lines.specs.declared.Frame.the-variants.{Basic, Extended, MalformedLine, OK, OKName, OKKept, MalformedOK, NO, Stop, Display, Other}
@@ -22,7 +22,7 @@ use Rattle.lines.specs.Frame.{lineMark, okMark, noMark, stopFrame, displ
 use Rattle.numbers.specs.Canonical.{plain, capitals}
 use Rattle.lines.specs.Canonical.{plainLine, plainKept}
 use Rattle.lines.specs.Element.{resumeMark, basicBytes, lineBytes, okBytes, keptBytes, noBytes}
-use Rattle.lines.proofs.Fields.{either, ends-back, body-back, framed, last-place, hash-yes, behind-cut, marked-cut, hash-no, hash-split, marked-split, resume-back, digits-back, field-split}
+use Rattle.lines.proofs.Fields.{ends-back, body-back, framed, last-place, hash-yes, behind-cut, marked-cut, hash-no, hash-split, marked-split, resume-back, digits-back, field-split}
 
 -- ---- What each mark leads to
 

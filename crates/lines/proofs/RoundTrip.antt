@@ -1,6 +1,6 @@
 -- What is written reads back, and what is read from the form that we write is written back unchanged. Assumes nothing.
 use mathlib.Core.Path.{_≡_, refl, sym, ap, _∙_}
-use mathlib.Core.Bool.{Bool, true, false, _&&_}
+use mathlib.Core.Bool.{Bool, true, _&&_}
 use mathlib.Core.List.{List, []}
 use Prim.Native.Nat.{ℕ, _≤_, _<_, _^_}
 use native.Mathlib.Omega.{arith}
@@ -10,9 +10,10 @@ use borrow.Author.Tests.{le-leb, leb-true}
 use Rattle.fields.specs.Lists.{bytesAt}
 use Rattle.fields.specs.Name.{isName}
 use Rattle.numbers.specs.Canonical.{plain, capitals}
-use Rattle.numerals.specs.Writing.{decimal, hex}
-use Rattle.fields.specs.Buffer.{formless, bytes, formIf}
-use Rattle.fields.proofs.Lists.{both}
+use Rattle.numbers.specs.Writing.{decimal, hex}
+use Rattle.fields.specs.Buffer.{bytes}
+use Rattle.fields.proofs.Lists.{never, both}
+use Rattle.fields.proofs.Buffer.{form-is, formless-not}
 use Rattle.numbers.proofs.Reading.{size-below, crc-below, hex-below}
 use Rattle.numbers.proofs.Canonical.{hex-capitals}
 use Rattle.numbers.proofs.RoundTrip.{read-size, read-crc, read-hex, decimal-plain, size-back, crc-back, hex-back}
@@ -20,17 +21,10 @@ use Rattle.lines.specs.declared.Frame.{Frame}
 use Rattle.lines.specs.Frame.{noMark, stopFrame, ends, body, textOf, frameOf}
 use Rattle.lines.specs.Element.{Element, basic, extended, malformedLine, ok, okName, okKept, malformedOK, no, stop, display, other, contentOf, basicBytes, lineBytes, okBytes, keptBytes, noBytes, basicForm, lineForm, okNameForm, okKeptForm, noForm, formOf}
 use Rattle.lines.specs.Canonical.{canonicalAs, canonical}
-use Rattle.lines.proofs.Fields.{never, framed}
+use Rattle.lines.proofs.Fields.{framed}
 use Rattle.lines.proofs.Reading.{basic-reads, basic-body, line-reads, line-plain, line-name, ok-reads, name-place, name-reads, kept-reads, kept-plain, kept-name, no-reads, no-ends, no-place, no-text, stop-reads, Seen, isBasic, isExtended, isMalformedLine, isOK, isNamed, isKept, isMalformedOK, isNO, isStop, isDisplay, isOther, seen}
 
 -- ---- What is written
-
-form-if : (t : Bool) (x bs : List ℕ) → formIf t x ≡ bytes bs → (t ≡ true) × (bs ≡ x)
-form-if true x bs h = let e : bs ≡ x = cc in (refl, e)
-form-if false x bs h = let z : _≡_ {A = ℕ} 0 1 = cc in absurd (omega arith)
-
-none : {A : Type 0} (bs : List ℕ) → formless ≡ bytes bs → A
-none bs h = let z : _≡_ {A = ℕ} 0 1 = cc in absurd (omega arith)
 
 -- the element that bs is written for is within the limits, and bs its bytes
 pub data Made (bs : List ℕ) : Element → Type 0 where
@@ -47,28 +41,28 @@ pub data Made (bs : List ℕ) : Element → Type 0 where
 pub made : (c : Element) (bs : List ℕ) → formOf c ≡ bytes bs → Made bs c
 unfolding formOf basicForm lineForm okNameForm okKeptForm noForm
 made (basic n) bs h =
-    let f = form-if (leb n 99999999) _ bs h in
-    fromBasic n (leb-true n 99999999 (f .0)) (f .1)
+    let f = form-is (leb n 99999999) _ bs h in
+    fromBasic n (leb-true n 99999999 (f .0)) (sym (f .1))
 made (extended n k v r name) bs h =
-    let f = form-if (isName name && (leb n 99999999 && (leb k 65535 && leb v 0xFFFFFFFF))) _ bs h in
+    let f = form-is (isName name && (leb n 99999999 && (leb k 65535 && leb v 0xFFFFFFFF))) _ bs h in
     let a = both (isName name) _ (f .0) in
     let b = both (leb n 99999999) _ (a .1) in
     let c = both (leb k 65535) _ (b .1) in
     let d = leb-true v 0xFFFFFFFF (c .1) in
-    fromExtended n k v r name (leb-true n 99999999 (b .0)) (leb-true k 65535 (c .0)) (omega arith) (a .0) (f .1)
-made malformedLine bs h = none bs h
+    fromExtended n k v r name (leb-true n 99999999 (b .0)) (leb-true k 65535 (c .0)) (omega arith) (a .0) (sym (f .1))
+made malformedLine bs h = formless-not bs h
 made ok bs h = let e : bs ≡ okBytes [] = cc in fromOK e
-made (okName name) bs h = let f = form-if (isName name) _ bs h in fromNamed name (f .0) (f .1)
+made (okName name) bs h = let f = form-is (isName name) _ bs h in fromNamed name (f .0) (sym (f .1))
 made (okKept name n k) bs h =
-    let f = form-if (isName name && (leb n 99999999 && leb k 65535)) _ bs h in
+    let f = form-is (isName name && (leb n 99999999 && leb k 65535)) _ bs h in
     let a = both (isName name) _ (f .0) in
     let b = both (leb n 99999999) _ (a .1) in
-    fromKept name n k (a .0) (leb-true n 99999999 (b .0)) (leb-true k 65535 (b .1)) (f .1)
-made malformedOK bs h = none bs h
-made (no text) bs h = let f = form-if (leb (length text) 80) _ bs h in fromNO text (leb-true (length text) 80 (f .0)) (f .1)
+    fromKept name n k (a .0) (leb-true n 99999999 (b .0)) (leb-true k 65535 (b .1)) (sym (f .1))
+made malformedOK bs h = formless-not bs h
+made (no text) bs h = let f = form-is (leb (length text) 80) _ bs h in fromNO text (leb-true (length text) 80 (f .0)) (sym (f .1))
 made stop bs h = let e : bs ≡ stopFrame = cc in fromStop e
-made (display text) bs h = none bs h
-made other bs h = none bs h
+made (display text) bs h = formless-not bs h
+made other bs h = formless-not bs h
 
 -- THE LAW: what is written reads back
 pub reads-back : (c : Element) (bs : List ℕ) → formOf c ≡ bytes bs → contentOf bs (frameOf bs) ≡ c
@@ -133,14 +127,14 @@ writes-back b h = go (frameOf b) (seen b) h
         let t = both (plain crc) _ (s .1) in
         let w = hex-below v stamp d in
         rw (e, line-name size crc stamp name n k v r a b d i, i, le-leb n 99999999 (size-below n size a), le-leb k 65535 (crc-below k crc b), le-leb v 0xFFFFFFFF (omega arith), size-back n size a (s .0), crc-back k crc b (t .0), hex-back v stamp d (t .1))
-    go _ isMalformedLine p = never (sym p)
+    go _ isMalformedLine p = never p
     go _ (isOK e) p = ap bytes (sym e)
     go _ (isNamed name e i) p = rw (e, name-place name, i)
     go _ (isKept name digits crc n k e i a b) p =
         let q : plain digits && plain crc ≡ true = rw (e, kept-plain name digits crc n k i a b) at p in
         let s = both (plain digits) _ q in
         rw (e, kept-name name digits crc n k i a b, i, le-leb n 99999999 (size-below n digits a), le-leb k 65535 (crc-below k crc b), size-back n digits a (s .0), crc-back k crc b (s .1))
-    go _ isMalformedOK p = never (sym p)
+    go _ isMalformedOK p = never p
     go _ (isNO s) p =
         let q = both (ends b) _ p in
         let e : b ≡ noBytes (body 4 b) = framed noMark b refl s (q .0) in
@@ -149,5 +143,5 @@ writes-back b h = go (frameOf b) (seen b) h
         let l : leb (length t) 80 ≡ true = rw (e, no-place t) at (q .1) in
         rw (x, l) (ap bytes (sym e))
     go _ (isStop e) p = ap bytes (sym e)
-    go _ (isDisplay s) p = never (sym p)
-    go _ isOther p = never (sym p)
+    go _ (isDisplay s) p = never p
+    go _ isOther p = never p

@@ -7,11 +7,11 @@ use lib.Dec.{leb}
 use Rattle.fields.specs.Pick.{pick}
 use Rattle.fields.specs.Lists.{bytesAt}
 use Rattle.fields.specs.Name.{isName}
-use Rattle.numerals.specs.Writing.{decimal, hex}
+use Rattle.numbers.specs.Writing.{decimal, hex}
 use Rattle.fields.specs.Buffer.{Form, formless, bytes, formIf}
 use Rattle.lines.specs.declared.Frame.{Frame}
 use Rattle.lines.specs.declared.Frame.the-variants.{Basic, Extended, MalformedLine, OK, OKName, OKKept, MalformedOK, NO, Stop, Display, Other}
-use Rattle.lines.specs.Frame.{stopFrame}
+use Rattle.lines.specs.Frame.{lineMark, okMark, noMark, stopFrame}
 
 -- a frame with the bytes themselves where the code's `Frame` has their places: a line has size, CRC, stamp, whether resume is possible,
 -- and name; the third OK has name, kept count and CRC
@@ -44,7 +44,7 @@ contentOf s Other = other
 
 -- `#BIN#`size`\r`
 unfoldable pub basicBytes : List ℕ → List ℕ
-basicBytes size = 35 ∷ 66 ∷ 73 ∷ 78 ∷ 35 ∷ (size ++ (13 ∷ []))
+basicBytes size = lineMark ++ (size ++ (13 ∷ []))
 
 -- `?` if resume is possible
 abbrev pub resumeMark : Bool → List ℕ
@@ -53,20 +53,19 @@ resumeMark resumable = pick resumable (63 ∷ []) []
 -- `#BIN#`size`#|`crc`#$`stamp`?#`name`\r`
 unfoldable pub lineBytes : List ℕ → List ℕ → List ℕ → Bool → List ℕ → List ℕ
 lineBytes size crc stamp resumable name =
-    35 ∷ 66 ∷ 73 ∷ 78 ∷ 35
-    ∷ (size ++ (35 ∷ 124 ∷ (crc ++ (35 ∷ 36 ∷ (stamp ++ (resumeMark resumable ++ (35 ∷ (name ++ (13 ∷ [])))))))))
+    lineMark ++ (size ++ (35 ∷ 124 ∷ (crc ++ (35 ∷ 36 ∷ (stamp ++ (resumeMark resumable ++ (35 ∷ (name ++ (13 ∷ [])))))))))
 
 -- `#OK#`name`\r`; without a name `#OK#\r`
 unfoldable pub okBytes : List ℕ → List ℕ
-okBytes name = 35 ∷ 79 ∷ 75 ∷ 35 ∷ (name ++ (13 ∷ []))
+okBytes name = okMark ++ (name ++ (13 ∷ []))
 
 -- `#OK#`name`#$`kept`#`crc`\r`
 unfoldable pub keptBytes : List ℕ → List ℕ → List ℕ → List ℕ
-keptBytes name kept crc = 35 ∷ 79 ∷ 75 ∷ 35 ∷ (name ++ (35 ∷ 36 ∷ (kept ++ (35 ∷ (crc ++ (13 ∷ []))))))
+keptBytes name kept crc = okMark ++ (name ++ (35 ∷ 36 ∷ (kept ++ (35 ∷ (crc ++ (13 ∷ []))))))
 
 -- `#NO#`text`\r`
 unfoldable pub noBytes : List ℕ → List ℕ
-noBytes text = 35 ∷ 78 ∷ 79 ∷ 35 ∷ (text ++ (13 ∷ []))
+noBytes text = noMark ++ (text ++ (13 ∷ []))
 
 -- the size within the limits
 unfoldable pub basicForm : ℕ → Form

@@ -1,8 +1,12 @@
 // The elements of #BIN#: what a frame says, how it starts. Places count from the frame's first byte.
 use fields::Place;
+use fields::names;
 ghost use mathlib.Core.Path.{_≡_};
 ghost use Rattle.fields.specs.Lists.{same as sameOf};
 ghost use Rattle.lines.specs.Frame.{stopFrame, displayMark, starts as startsOf};
+
+pub mod line_reader;
+mod line_stamps;
 
 // An extended line.
 pub struct Line {
@@ -44,7 +48,7 @@ pub enum Frame {
 }
 
 // Whether b starts with mark.
-pub fn starts(mark: &[u8], b: &[u8]) -> bool
+fn starts(mark: &[u8], b: &[u8]) -> bool
     ensures { λ r. ⌜ r ≡ startsOf (now (mark .entry)) (now (b .entry)) ⌝ }
 {
     names::same(mark, fields::part(b, 0, mark.len()))

@@ -1,3 +1,3 @@
-pub mod Sizes
+mod Sizes
 pub mod Steps
 pub mod Listing

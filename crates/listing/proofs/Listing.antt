@@ -2,52 +2,29 @@
 -- Assumes nothing.
 use mathlib.Core.Path.{_≡_, refl, ap, _∙_}
 use mathlib.Core.Bool.{false}
-use mathlib.Core.List.{List, [], _∷_, _++_, append-assoc}
+use mathlib.Core.List.{List, [], _∷_, _++_, append-assoc, flatten}
 use Prim.Native.Nat.{ℕ, zero, suc, _+_, _<_, _^_}
 use native.Mathlib.Omega.{arith}
 use lib.ListN.{length, take, drop}
 use lib.Seq.{take-at}
 use Rattle.fields.specs.Buffer.{over}
-use Rattle.spans.specs.declared.Span.{Span}
-use Rattle.spans.specs.declared.Span.the-variants.{Open, Whole, Drop}
+use Rattle.packets.specs.declared.spans.Span.{Span}
+use Rattle.packets.specs.declared.spans.Span.the-variants.{Open, Whole, Drop}
 use Rattle.packets.specs.declared.Packet.{Packet}
 use Rattle.packets.specs.declared.Packet.the-variants.{RR, RF, AF, AT, CA, RT, SI, RI, HD, Malformed, DT, EF, ET, NR, RE, CN, TX, Dropped, Open as Unfinished}
-use Rattle.spans.specs.Span.{sizeOf}
+use Rattle.packets.specs.Span.{sizeOf}
 use Rattle.packets.specs.Content.{contentOf}
-use Rattle.packets.specs.Kind.{partsOf}
-use Rattle.spans.proofs.Laws.{at-none}
-use Rattle.reader.specs.declared.Received.{Received}
-use Rattle.reader.specs.Reader.{receive}
-use Rattle.reader.specs.Stream.{Piece, noted, ran, streamOf, concat, Bytes}
-use Rattle.reader.specs.Stream.{Run as Read, handOver as readOver, handAll as readAll}
-use Rattle.reader.proofs.Chunks.{chunks}
+use Rattle.packets.proofs.KindLaws.{kind-same}
+use Rattle.packets.proofs.spans.Laws.{at-none}
+use Rattle.packet_stream.specs.declared.Received.{Received}
+use Rattle.packet_stream.specs.Reader.{receive}
+use Rattle.packet_stream.specs.Stream.{Piece, noted, ran, streamOf, Bytes}
+use Rattle.packet_stream.specs.Stream.{Run as Read, handOver as readOver, handAll as readAll}
+use Rattle.packet_stream.proofs.Chunks.{chunks}
 use Rattle.listing.specs.declared.Lister.{Lister}
 use Rattle.listing.specs.Text.{heading, lines, sizeAll, listing}
-use Rattle.listing.specs.Lister.{new, behind, lineBy, stepped, wrote, Run, handOver, handAll, endText}
+use Rattle.listing.specs.Lister.{new, advanced, lineBy, stepped, wrote, Run, handOver, handAll, endText}
 use Rattle.listing.proofs.Sizes.{sized}
-
--- a packet's kind does not depend on the bytes at its places
-kind-same : (s : List ℕ) (p : Packet) → partsOf (contentOf [] p) .kind ≡ partsOf (contentOf s p) .kind
-unfolding partsOf contentOf
-kind-same s RR = refl
-kind-same s RF = refl
-kind-same s AF = refl
-kind-same s AT = refl
-kind-same s CA = refl
-kind-same s RT = refl
-kind-same s SI = refl
-kind-same s (RI p) = refl
-kind-same s (HD h) = refl
-kind-same s Malformed = refl
-kind-same s (DT b) = refl
-kind-same s EF = refl
-kind-same s ET = refl
-kind-same s (NR p) = refl
-kind-same s (RE r) = refl
-kind-same s (CN p) = refl
-kind-same s (TX p) = refl
-kind-same s (Dropped n) = refl
-kind-same s Unfinished = refl
 
 -- what a step wrote is its line
 front : (bs d : List ℕ) → take (length bs) (over 0 bs d) ≡ bs
@@ -88,10 +65,10 @@ record Follows (offset : ℕ) (m : Run) (r : Read) : Type 0 where
 
 -- one step, and the steps behind it
 one : (offset : ℕ) (a : Received) (d : List ℕ) (m : Run) (r : Read) → offset + sizeAll (ran a r .pieces) < 2 ^ 64
-    → Follows (behind offset (sizeOf (a .found))) m r → Follows offset (wrote (stepped offset a d) m) (ran a r)
+    → Follows (advanced offset (sizeOf (a .found))) m r → Follows offset (wrote (stepped offset a d) m) (ran a r)
 one offset a d m r h f =
     let n = noted-size (a .found) a (r .pieces) in
-    let b : behind offset (sizeOf (a .found)) ≡ offset + sizeOf (a .found) = omega arith in
+    let b : advanced offset (sizeOf (a .found)) ≡ offset + sizeOf (a .found) = omega arith in
     record {
       reader = f .reader;
       behind = omega (arith, f .behind);
@@ -130,17 +107,17 @@ all-follows (c ∷ cs) l d h =
 
 -- LISTS. For every capture, cut into chunks in any way, and whatever the buffer held: the heading, the lines of all the steps in order and
 -- the text of the end are together the listing of the capture.
-pub lists : (cs : List (List ℕ)) (d : List ℕ) → Bytes (concat cs) → length (concat cs) < 2 ^ 64
-    → heading ++ (handAll new cs d .text ++ endText (handAll new cs d .lister)) ≡ listing (concat cs)
+pub lists : (cs : List (List ℕ)) (d : List ℕ) → Bytes (flatten cs) → length (flatten cs) < 2 ^ 64
+    → heading ++ (handAll new cs d .text ++ endText (handAll new cs d .lister)) ≡ listing (flatten cs)
 lists cs d hb hl =
     let l = handAll new cs d .lister in
-    let s = streamOf false (concat cs) in
+    let s = streamOf false (flatten cs) in
     let y = chunks false cs hb in
-    let z = sized false [] (concat cs) (at-none false 0 0 0 0 refl) in
+    let z = sized false [] (flatten cs) (at-none false 0 0 0 0 refl) in
     let p = ap sizeAll (y .pieces) in
     let f = all-follows cs new d (omega arith) in
     let t : handAll new cs d .text ≡ lines 0 (s .pieces) = f .text ∙ ap (lines 0) (y .pieces) in
     let o : l .offset ≡ sizeAll (s .pieces) = omega (arith, f .behind) in
     let n : l .reader .filled ≡ length (s .left) = ap (λ r. r .filled) (f .reader) ∙ y .holds .waits .count in
-    let e : behind (l .offset) (l .reader .filled) ≡ length (concat cs) = omega arith in
+    let e : advanced (l .offset) (l .reader .filled) ≡ length (flatten cs) = omega arith in
     rw (t, e, o, n)

@@ -9,12 +9,12 @@ use native.Mathlib.Omega.{arith}
 use lib.ListN.{length, take, set, length-append, length-take}
 use borrow.Author.Tests.{lt-ltb, le-ltb}
 use Rattle.fields.proofs.Lists.{le-or-lt}
-use Rattle.spans.specs.declared.Span.{Span}
-use Rattle.spans.specs.declared.Span.the-variants.{Open, Whole, Drop}
-use Rattle.spans.specs.Span.{span, sizeOf}
-use Rattle.spans.proofs.Laws.{at-none, grown, size-within}
-use Rattle.pending.specs.Pending.{Fed, slot, after, feed}
-use Rattle.reader.specs.Stream.{settle, streamFrom}
+use Rattle.packets.specs.declared.spans.Span.{Span}
+use Rattle.packets.specs.declared.spans.Span.the-variants.{Open, Whole, Drop}
+use Rattle.packets.specs.Span.{span, sizeOf}
+use Rattle.packets.proofs.spans.Laws.{at-none, grown, size-within}
+use Rattle.packet_stream.specs.Pending.{Fed, slot, after, feed}
+use Rattle.packet_stream.specs.Stream.{bySpan, streamFrom}
 use Rattle.listing.specs.Text.{sizeAll}
 
 slot-below : (n : ℕ) → slot n < 259
@@ -61,7 +61,7 @@ sized k p (x ∷ s) o = go (span k b) refl (λ e. sized k b s e) (sized k [] s (
     go : (v : Span) → span k b ≡ v
         → (span k b ≡ Open → sizeAll (streamFrom k b s .pieces) + length (streamFrom k b s .left) ≡ length b + length s)
         → sizeAll (streamFrom k [] s .pieces) + length (streamFrom k [] s .left) ≡ 0 + length s
-        → sizeAll (settle k v b (streamFrom k b s) (streamFrom k [] s) .pieces) + length (settle k v b (streamFrom k b s) (streamFrom k [] s) .left)
+        → sizeAll (bySpan k v b (streamFrom k b s) (streamFrom k [] s) .pieces) + length (bySpan k v b (streamFrom k b s) (streamFrom k [] s) .left)
         ≡ length p + length (x ∷ s)
     go Open e on next = omega (arith, on e, size)
     go (Whole n) e on next = let w = whole (Whole n) e (λ q. let z : _≡_ {A = ℕ} 0 1 = cc in omega arith) in omega arith

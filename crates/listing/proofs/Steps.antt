@@ -5,7 +5,7 @@ use Prim.Native.Nat.{ℕ, _≤_, _<_}
 use native.Mathlib.Omega.{arith}
 use lib.ListN.{length, length-append, length-drop}
 use Rattle.fields.specs.Buffer.{over}
-use Rattle.pending.proofs.Feeding.{feed-some}
+use Rattle.packet_stream.proofs.Feeding.{feed-some}
 use Rattle.listing.specs.declared.Lister.{Lister}
 use Rattle.listing.specs.Lister.{Stepped, step}
 

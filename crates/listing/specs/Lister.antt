@@ -4,23 +4,23 @@ use mathlib.Core.Bool.{false}
 use mathlib.Core.List.{List, [], _∷_, _++_}
 use lib.ListN.{length, take, drop}
 use Rattle.fields.specs.Buffer.{over}
-use Rattle.spans.specs.declared.Span.{Span}
-use Rattle.spans.specs.declared.Span.the-variants.{Open, Whole, Drop}
+use Rattle.packets.specs.declared.spans.Span.{Span}
+use Rattle.packets.specs.declared.spans.Span.the-variants.{Open, Whole, Drop}
 use Rattle.packets.specs.declared.Packet.{Packet}
-use Rattle.spans.specs.Span.{sizeOf}
+use Rattle.packets.specs.Span.{sizeOf}
 use Rattle.packets.specs.Content.{contentOf}
-use Rattle.reader.specs.declared.Received.{Received}
-use Rattle.reader.specs.Reader.{fresh, receive}
+use Rattle.packet_stream.specs.declared.Received.{Received}
+use Rattle.packet_stream.specs.Reader.{fresh, receive}
 use Rattle.listing.specs.declared.Lister.{Lister}
 use Rattle.listing.specs.declared.Listed.{Listed}
-use Rattle.listing_lines.specs.Line.{lineOf, ending}
+use Rattle.listing.specs.Line.{lineOf, ending}
 
 abbrev pub new : Lister
 new = record { reader = fresh false; offset = 0 }
 
 -- the offset behind n bytes; past 2 ^ 64 it starts from 0 again
-abbrev pub behind : ℕ → ℕ → ℕ
-behind offset n = (offset + n) % 2 ^ 64
+abbrev pub advanced : ℕ → ℕ → ℕ
+advanced offset n = (offset + n) % 2 ^ 64
 
 -- the line of a packet or a drop; none while a packet is open
 abbrev pub lineBy : ℕ → Span → Packet → List ℕ
@@ -36,7 +36,7 @@ pub record Stepped : Type 0 where
 abbrev pub stepped : ℕ → Received → List ℕ → Stepped
 stepped offset a d = record {
   listed = record {
-    lister = record { reader = a .reader; offset = behind offset (sizeOf (a .found)) };
+    lister = record { reader = a .reader; offset = advanced offset (sizeOf (a .found)) };
     taken = a .taken;
     written = length (lineBy offset (a .found) (a .packet));
   };
@@ -48,7 +48,7 @@ step l chunk d = stepped (l .offset) (receive (l .reader) chunk) d
 
 -- the last lines
 abbrev pub endText : Lister → List ℕ
-endText l = ending (l .offset) (l .reader .filled) (behind (l .offset) (l .reader .filled))
+endText l = ending (l .offset) (l .reader .filled) (advanced (l .offset) (l .reader .filled))
 
 -- what a lister wrote over some chunks: the lister, the buffer, and the lines in their order
 pub record Run : Type 0 where

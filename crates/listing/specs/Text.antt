@@ -4,9 +4,9 @@ use Prim.Native.Nat.{ℕ, _+_}
 use mathlib.Core.Bool.{false}
 use mathlib.Core.List.{List, [], _∷_, _++_}
 use lib.ListN.{length}
-use Rattle.spans.specs.Span.{sizeOf}
-use Rattle.reader.specs.Stream.{Piece, Stream, streamOf}
-use Rattle.listing_lines.specs.Line.{lineOf, ending}
+use Rattle.packets.specs.Span.{sizeOf}
+use Rattle.packet_stream.specs.Stream.{Piece, Stream, streamOf}
+use Rattle.listing.specs.Line.{lineOf, ending}
 
 -- `offset kind data` and a line feed
 unfoldable pub heading : List ℕ

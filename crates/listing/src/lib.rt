@@ -1,14 +1,16 @@
-// The listing of a capture of YAPP packets, a line at a time: `offset kind data`.
+// The listing of a capture of YAPP packets, a line at a time: `offset kind data`. The capture comes in chunks (document 01's portions).
+use packet_stream::Reader;
 use packets::Packet;
-use reader::Reader;
-use spans::Span;
+use packets::spans::Span;
 ghost use mathlib.Core.Path.{_≡_};
 ghost use Prim.Native.Nat.{_≤_};
 ghost use lib.ListN.{length};
 ghost use Rattle.fields.specs.Buffer.{over};
-ghost use Rattle.spans.specs.Span.{sizeOf};
+ghost use Rattle.packets.specs.Span.{sizeOf};
 ghost use Rattle.listing.specs.Text.{heading as headingOf};
-ghost use Rattle.listing.specs.Lister.{behind, lineBy, Stepped, new as newOf, step as stepOf, endText};
+ghost use Rattle.listing.specs.Lister.{advanced, lineBy, Stepped, new as newOf, step as stepOf, endText};
+
+mod lines;
 
 pub struct Lister {
     reader: Reader,
@@ -39,14 +41,14 @@ fn put_found(out: &mut [u8; 32], offset: u64, found: Span, packet: Packet) -> us
 {
     match found {
         Span::Open => 0,
-        Span::Whole(n) => listing_lines::put_packet(out, offset, packet, n as u16),
-        Span::Drop(n) => listing_lines::put_packet(out, offset, packet, n as u16),
+        Span::Whole(n) => lines::put_packet(out, offset, packet, n),
+        Span::Drop(n) => lines::put_packet(out, offset, packet, n),
     }
 }
 
 // The offset behind what was found.
 fn advance(offset: u64, found: Span) -> u64
-    ensures { λ r. ⌜ r ≡ behind offset (sizeOf found) ⌝ }
+    ensures { λ r. ⌜ r ≡ advanced offset (sizeOf found) ⌝ }
 {
     match found {
         Span::Open => offset,
@@ -72,13 +74,11 @@ impl Lister {
         let got = self.reader.receive(chunk);
         let found = got.found;
         let packet = got.packet;
-        let reader = got.reader;
         let written = put_found(out, self.offset, found, packet);
+        let offset = advance(self.offset, found);
+        let reader = got.reader;
         Listed {
-            lister: Lister {
-                reader,
-                offset: advance(self.offset, found),
-            },
+            lister: Lister { reader, offset },
             taken: got.taken,
             written,
         }
@@ -90,6 +90,6 @@ impl Lister {
     {
         let filled = self.reader.filled();
         let total = std::num::wrapping_add_u64(self.offset, filled as u64);
-        listing_lines::put_ending(out, self.offset, filled, total)
+        lines::put_ending(out, self.offset, filled, total)
     }
 }

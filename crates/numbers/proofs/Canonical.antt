@@ -9,8 +9,9 @@ use mathlib.Core.Logic.{⊎-elim}
 use borrow.Author.Tests.{lt-ltb, le-ltb, le-leb, lt-leb}
 use Rattle.fields.proofs.Lists.{le-or-lt, all-append, all-upTo}
 use Rattle.fields.specs.Lists.{all, upTo}
-use Rattle.numerals.specs.Writing.{digits, decimal, capital, hex}
-use Rattle.numbers.specs.Canonical.{isDigit, isCapital, capitals}
+use Rattle.numbers.specs.Writing.{digits, decimal, capital, hex}
+use Rattle.numbers.specs.Reading.{isDigit}
+use Rattle.numbers.specs.Canonical.{isCapital, capitals}
 
 -- only digits are written, and so any other byte is not among them
 digit-all : (n : ℕ) → all isDigit ((48 + n % 10) ∷ []) ≡ true
@@ -45,6 +46,3 @@ unfolding hex all
 hex-capitals zero v = refl
 hex-capitals (suc w) v =
     all-append isCapital (hex w (v / 16)) (capital (v % 16) ∷ []) (hex-capitals w (v / 16)) (rw (capital-is (v % 16) (omega arith)))
-
-pub hex-free : (x w v : ℕ) → isCapital x ≡ false → upTo x (hex w v) ≡ hex w v
-hex-free x w v h = all-upTo isCapital x (hex w v) h (hex-capitals w v)

@@ -1,6 +1,6 @@
 -- What is written reads back, and what is read from the form that we write is written back unchanged. Assumes nothing.
 use mathlib.Core.Path.{_≡_, refl, sym, ap, _∙_}
-use mathlib.Core.Bool.{Bool, true, false, _&&_, _||_}
+use mathlib.Core.Bool.{Bool, true, false, _||_}
 use mathlib.Core.List.{List, [], _∷_, _++_, append-assoc, append-nil}
 use mathlib.Core.Logic.{_⊎_, ⊎-elim}
 use Prim.Native.Nat.{ℕ, zero, suc, _+_, _-_, _*_, _/_, _%_, _^_, _≤_, _<_}
@@ -13,13 +13,13 @@ use lib.Dec.{leb, eqb}
 use Rattle.numbers.specs.declared.Number.the-variants.{Value}
 use Rattle.numbers.specs.declared.Base.{Base}
 use Rattle.numbers.specs.declared.Base.the-variants.{Decimal, Hex}
-use Rattle.fields.specs.Lists.{all, upTo}
+use Rattle.fields.specs.Lists.{all}
 use Rattle.numbers.specs.Canonical.{plain, isCapital, capitals, isByte}
 use Rattle.numbers.specs.Reading.{radix, decimalDigit, hexDigit, digit, valueFrom, readDecimal, readSize, readCrc, readHex, littleValue, readLittle}
-use Rattle.numerals.specs.Writing.{decimal, capital, hex, little}
+use Rattle.numbers.specs.Writing.{decimal, capital, hex, little}
 use Rattle.fields.proofs.Lists.{le-or-lt, both}
-use Rattle.numerals.proofs.Writing.{decimal-small, decimal-more, decimal-some, hex-length, little-length}
-use Rattle.numbers.proofs.Reading.{below, below-none, decimal-is, decimal-byte, hex-is, hex-upper, hex-low, hex-past-nine, hex-past-upper, hex-past-lower, value-none, value-one, value-digit, value-grows, readDecimal-is, readCrc-is, readHex-is, readLittle-is, decimal-form, crc-form, hex-form, little-form, decimal-below, decimal-without}
+use Rattle.numbers.proofs.numerals.Writing.{decimal-small, decimal-more, decimal-some, hex-length, little-length}
+use Rattle.numbers.proofs.Reading.{below, below-none, decimal-is, decimal-byte, hex-is, hex-upper, hex-low, hex-past-nine, hex-past-upper, hex-past-lower, value-none, value-one, value-digit, value-grows, readDecimal-is, readCrc-is, readHex-is, readLittle-is, decimal-form, crc-form, hex-form, little-form, decimal-below}
 
 -- Written, and read back
 

@@ -5,14 +5,11 @@ use mathlib.Core.List.{List}
 use lib.ListN.{length, getD}
 use lib.Dec.{leb, ltb, eqb}
 use Rattle.fields.specs.Lists.{all}
+use Rattle.numbers.specs.Reading.{isDigit}
 
 -- decimal digits without a leading zero; 0 is one digit
 unfoldable pub plain : List ℕ → Bool
 plain s = leb (length s) 1 || not (eqb (getD s 0 0) 48)
-
--- 0 to 9
-abbrev pub isDigit : ℕ → Bool
-isDigit c = leb 48 c && leb c 57
 
 -- 0 to 9 and A to F
 abbrev pub isCapital : ℕ → Bool

@@ -1,6 +1,6 @@
 -- Numbers that are read: decimal and hex digits, most significant first, and little-endian bytes.
 use Prim.Native.Nat.{ℕ, _+_, _-_, _*_}
-use mathlib.Core.Bool.{_&&_}
+use mathlib.Core.Bool.{Bool, _&&_}
 use mathlib.Core.List.{List, [], _∷_}
 use lib.ListN.{length}
 use lib.Dec.{leb, ltb, eqb}
@@ -15,14 +15,18 @@ unfoldable pub radix : Base → ℕ
 radix Decimal = 10
 radix Hex = 16
 
+-- 0 to 9
+abbrev pub isDigit : ℕ → Bool
+isDigit c = leb 48 c && leb c 57
+
 -- the value of a decimal digit; 10 for any other byte
 unfoldable pub decimalDigit : ℕ → ℕ
-decimalDigit c = pick (leb 48 c && leb c 57) (c - 48) 10
+decimalDigit c = pick (isDigit c) (c - 48) 10
 
 -- the value of a hex digit of either case; 16 for any other byte
 unfoldable pub hexDigit : ℕ → ℕ
 hexDigit c =
-    pick (leb 48 c && leb c 57) (c - 48)
+    pick (isDigit c) (c - 48)
     (pick (leb 65 c && leb c 70) (c - 55)
     (pick (leb 97 c && leb c 102) (c - 87) 16))
 

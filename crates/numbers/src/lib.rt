@@ -1,4 +1,9 @@
-// Numbers read: decimal and hex digits, most significant first, and little-endian bytes. The definitions and their laws are in specs/ and proofs/.
+// Numbers read and written: decimal and hex digits, most significant first, and little-endian bytes.
+pub mod digit_reader;
+pub mod hex_writer;
+pub mod little_reader;
+pub mod little_writer;
+pub mod numerals;
 
 // What a field that should hold a number reads as.
 pub enum Number {

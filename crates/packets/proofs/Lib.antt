@@ -1,9 +1,10 @@
 -- Laws of the definitions of specs/, which this crate's proofs and its callers' cite.
-pub mod Sums
+mod Bounds
+mod Sums
 pub mod Places
 pub mod Whole
-pub mod Parts
+mod Parts
+pub mod KindLaws
 pub mod RoundTrip
 pub mod WriteBack
 pub mod Limits
-pub mod Examples

@@ -8,14 +8,12 @@ use native.Mathlib.Omega.{arith}
 use lib.Dec.{eqb}
 use lib.ListN.{length, take, drop, getD, length-append, take-append-drop}
 use lib.Seq.{length-take-le, take-append-le}
-use borrow.Author.Tests.{eqb-false}
-use Rattle.fields.specs.Pick.{pick}
 use Rattle.numbers.specs.Canonical.{isByte}
 use Rattle.fields.specs.Lists.{all, bytesAt, upTo}
 use Rattle.fields.specs.Name.{isName}
 use Rattle.fields.proofs.Lists.{take-upTo, upTo-le}
 use Rattle.numbers.proofs.Reading.{size-below}
-use Rattle.spans.specs.declared.Span.the-variants.{Open as Unfinished, Whole, Drop}
+use Rattle.packets.specs.declared.spans.Span.the-variants.{Open as Unfinished, Whole, Drop}
 use Rattle.packets.specs.declared.HeaderRead.the-variants.{Good, Bad}
 use Rattle.packets.specs.declared.ResumeRead.{ResumeRead}
 use Rattle.packets.specs.declared.ResumeRead.the-variants.{Asked, Nothing}
@@ -23,13 +21,14 @@ use Rattle.packets.specs.declared.Packet.{Packet}
 use Rattle.packets.specs.declared.Header.{Header}
 use Rattle.packets.specs.declared.HeaderRead.{HeaderRead}
 use Rattle.packets.specs.declared.Resume.{Resume}
-use Rattle.spans.specs.declared.Span.{Span}
+use Rattle.packets.specs.declared.spans.Span.{Span}
 use Rattle.packets.specs.declared.Block.{Block}
 use Rattle.packets.specs.declared.Packet.the-variants.{RR, RF, AF, AT, CA, RT, SI, RI, HD, Malformed, DT, EF, ET, NR, RE, CN, TX, Dropped, Open}
-use Rattle.spans.specs.Span.{dataLength, counted, total, span, lead, trail, placeAt}
+use Rattle.packets.specs.Span.{counted, total, span, lead, trail, placeAt}
 use Rattle.packets.specs.Packet.{headerRead, headerBy, resumeRead, nakBy, acknowledgeOf, placeOf, dataOf, wholeOf, packetOf, packetIn}
 use Rattle.packets.specs.Content.{stampFits}
 use Rattle.packets.specs.Canonical.{behind}
+use Rattle.packets.proofs.Bounds.{either, data-length}
 use Rattle.packets.proofs.Parts.{header-parts, stamp-fits, resume-parts}
 use Rattle.packets.proofs.Whole.{Framed, whole-front, data-behind, known-is, byte-at}
 
@@ -54,10 +53,6 @@ Keeps b (CN p) = Unit {0}
 Keeps b (TX p) = Unit {0}
 Keeps b (Dropped n) = Unit {0}
 Keeps b Open = Unit {0}
-
-either : (P : Packet → Type 0) (t : Bool) (x y : Packet) → P x → P y → P (pick t x y)
-either P true x y p q = p
-either P false x y p q = q
 
 -- ---- A whole packet a x t, with r behind it
 
@@ -86,14 +81,6 @@ module _ (k : Bool) (x : ℕ) (t r : List ℕ) where
   acknowledge-keeps b =
       either (Keeps b) (eqb x 1) _ _ tt (either (Keeps b) (eqb x 2) _ _ tt (either (Keeps b) (eqb x 3) _ _ tt
       (either (Keeps b) (eqb x 4) _ _ tt (either (Keeps b) (eqb x 5) _ _ tt tt))))
-
-data-length : (x : ℕ) → x < 256 → (1 ≤ dataLength x) × (dataLength x ≤ 256)
-unfolding dataLength
-data-length x h = go (eqb x 0) refl
-  where
-    go : (t : Bool) → eqb x 0 ≡ t → (1 ≤ pick t 256 x) × (pick t 256 x ≤ 256)
-    go true e = (omega arith, omega arith)
-    go false e = (omega (arith, eqb-false x 0 e), omega arith)
 
 block-keeps : (k : Bool) (x : ℕ) (t r : List ℕ) → Framed k (2 ∷ x ∷ t) → Keeps ((2 ∷ x ∷ t) ++ r) (wholeOf k (2 ∷ x ∷ t))
 unfolding wholeOf Keeps total counted placeAt lead trail

@@ -1,7 +1,7 @@
 -- The places of a packet lie within its own bytes, so bytes behind it change nothing of what it says.
 -- Assumes nothing.
 use mathlib.Core.Path.{_≡_, refl}
-use mathlib.Core.Bool.{Bool, true, false, _&&_}
+use mathlib.Core.Bool.{Bool, true, false}
 use mathlib.Core.List.{List, [], _∷_, _++_}
 use Prim.Native.Nat.{ℕ, zero, suc, _+_, _-_, _≤_}
 use native.Mathlib.Omega.{arith}
@@ -11,25 +11,22 @@ use lib.Dec.{ltb, eqb}
 use Rattle.numbers.specs.declared.Number.{Number}
 use Rattle.numbers.specs.declared.Number.the-variants.{Value, Malformed as NoNumber}
 use Rattle.fields.specs.Pick.{pick}
-use Rattle.fields.specs.Lists.{upTo}
+use Rattle.fields.specs.Lists.{upTo, bytesAt}
 use Rattle.fields.specs.Name.{isName}
 use Rattle.numbers.specs.Reading.{readSize}
 use Rattle.fields.specs.declared.Place.{Place}
-use Rattle.spans.specs.declared.Span.{Span}
-use Rattle.spans.specs.declared.Span.the-variants.{Open, Whole, Drop}
+use Rattle.packets.specs.declared.spans.Span.{Span}
+use Rattle.packets.specs.declared.spans.Span.the-variants.{Open, Whole, Drop}
 use Rattle.packets.specs.declared.HeaderRead.the-variants.{Bad}
 use Rattle.packets.specs.declared.ResumeRead.{ResumeRead}
 use Rattle.packets.specs.declared.ResumeRead.the-variants.{Asked, Nothing}
 use Rattle.packets.specs.declared.Packet.{Packet}
 use Rattle.packets.specs.declared.Packet.the-variants.{RR, RF, AF, AT, CA, RT, SI, RI}
-use Rattle.spans.specs.Span.{lead, placeAt, sizeOf}
+use Rattle.packets.specs.Span.{placeAt, sizeOf}
 use Rattle.packets.specs.Packet.{sizedBy, headerSize, headerRead, headerBy, resumeRead, nakBy, acknowledgeOf, placeOf, dataOf, wholeOf, packetIn}
-use Rattle.fields.specs.Lists.{bytesAt}
 use Rattle.packets.specs.Content.{contentOf}
-
-either : {A : Type 0} (P : A → Type 0) (b : Bool) (x y : A) → P x → P y → P (pick b x y)
-either P true x y p q = p
-either P false x y p q = q
+use Rattle.fields.proofs.Lists.{upTo-le}
+use Rattle.packets.proofs.Bounds.{either, lead-least}
 
 part-same : (q t : List ℕ) (i n : ℕ) → n ≤ length q - i → take n (drop i (q ++ t)) ≡ take n (drop i q)
 part-same q t i zero h = refl
@@ -45,11 +42,6 @@ place-same : (m : ℕ) (p : Place) → p .len ≤ m - p .start → (q t : List �
 place-same m p h q t le = part-same q t (p .start) (p .len) (omega arith)
 
 -- ---- a header's name
-
-upTo-le : (x : ℕ) (s : List ℕ) → length (upTo x s) ≤ length s
-unfolding upTo
-upTo-le x [] = omega arith
-upTo-le x (c ∷ s) = either (λ l. length l ≤ suc (length s)) (eqb c x) [] (c ∷ upTo x s) (omega arith) (omega (arith, upTo-le x s))
 
 sized-inside : (m n : ℕ) (v : Number) (o : List ℕ) → n ≤ m - 2 → Inside m (headerBy (sizedBy n v o))
 unfolding contentOf
@@ -70,10 +62,6 @@ header-inside m d h =
     (size-inside m (length (upTo 0 d)) (drop (length (upTo 0 d) + 1) d) (omega (arith, upTo-le 0 d))) (λ q t le. refl)) (λ q t le. refl)
 
 -- ---- the others
-
-lead-least : (a b : ℕ) → 2 ≤ lead a b
-unfolding lead
-lead-least a b = either (λ n. 2 ≤ n) (eqb a 5 && eqb b 2) 3 2 (omega arith) (omega arith)
 
 data-place : (k : Bool) (b : List ℕ) → placeOf k b .len ≤ length b - placeOf k b .start
 unfolding placeAt

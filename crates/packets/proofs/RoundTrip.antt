@@ -3,7 +3,7 @@
 use mathlib.Core.Path.{_≡_, refl, sym, ap, _∙_}
 use mathlib.Core.Bool.{Bool, true, false, not}
 use mathlib.Core.List.{List, [], _∷_, _++_, append-assoc, append-nil}
-use mathlib.Core.Logic.{inl, ⊎-elim}
+use mathlib.Core.Logic.{⊎-elim}
 use Prim.Native.Nat.{ℕ, suc, _+_, _-_, _%_, _≤_, _<_}
 use native.Mathlib.Omega.{arith}
 use lib.ListN.{length, take, length-append}
@@ -12,23 +12,22 @@ use borrow.Author.Tests.{lt-ltb, le-ltb, eq-eqb, ne-eqb, leb-true}
 use Rattle.fields.specs.declared.Stamp.{Stamp}
 use Rattle.fields.specs.declared.Stamp.the-variants.{Present, Absent}
 use Rattle.fields.specs.Pick.{pick}
-use Rattle.fields.specs.Lists.{all}
 use Rattle.fields.specs.Name.{isNameByte, isName}
-use Rattle.numerals.specs.Writing.{decimal, hex}
+use Rattle.numbers.specs.Writing.{decimal, hex}
 use Rattle.fields.specs.Buffer.{formless, bytes, formIf}
-use Rattle.fields.proofs.Lists.{le-or-lt, both, all-append, name-length, name-free, cut-before, cut-inside, cut-behind}
-use Rattle.numerals.proofs.Writing.{hex-length}
+use Rattle.fields.proofs.Lists.{le-or-lt, both, name-length, name-free, cut-before, cut-inside, cut-behind}
+use Rattle.numbers.proofs.numerals.Writing.{hex-length}
 use Rattle.numbers.proofs.RoundTrip.{decimal-plain, read-size, read-hex, decimal-length}
 use Rattle.numbers.proofs.Canonical.{decimal-free, hex-capitals}
-use Rattle.spans.specs.declared.Span.the-variants.{Whole}
+use Rattle.packets.specs.declared.spans.Span.the-variants.{Whole}
 use Rattle.packets.specs.declared.HeaderRead.the-variants.{Good}
 use Rattle.packets.specs.declared.ResumeRead.{ResumeRead}
 use Rattle.packets.specs.declared.ResumeRead.the-variants.{Asked, Nothing}
-use Rattle.spans.specs.Span.{known, paired, dataLength, counted, total, span, lead, trail, placeAt}
+use Rattle.packets.specs.Span.{known, paired, dataLength, counted, total, span, lead, trail, placeAt}
 use Rattle.packets.specs.Packet.{stampOf, headerSize, headerRead, resumeMode, resumeDigits, resumeRead, checksum, isSound, acknowledgeOf, wholeOf, packetOf}
 use Rattle.packets.specs.Content.{Content, rr, rf, af, at, ca, rt, si, ef, et, ri, nr, cn, tx, hd, malformed, dt, re, dropped, unfinished, contentOf, stampData, stampFits, headerData, headerForm, blockForm, isAsked, refusalForm, resumeData, resumeForm, requestForm, formOf}
 use Rattle.packets.specs.Canonical.{optionInForm, headerInForm, nakInForm, inForm, isBlock}
-use Rattle.packets.specs.Kind.{partsOf}
+use Rattle.packets.specs.Kind.{kindOf}
 use Rattle.packets.proofs.Whole.{Framed, framed-whole, packet-whole, counted-framed, counted-data}
 
 -- ---- The data of HD
@@ -74,7 +73,8 @@ module _ (name : List ℕ) (size : ℕ) (stamp : Stamp) (n : isName name ≡ tru
       let c = cut-before 0 name r (name-free 0 name refl n) in
       rw (header-cut name size stamp, c, lt-ltb _ _ (cut-inside 0 name r), n, cut-behind 0 name r) (size-back (length name))
 
-  header-length : length (headerData name size stamp) ≤ 83
+  -- the data are short enough for the length byte
+  pub header-length : length (headerData name size stamp) ≤ 83
   header-length =
       rw header-cut
       (simp length-append (omega (arith, name-length name n, decimal-length 7 size (omega arith) (omega arith), stamp-length stamp)))
@@ -110,7 +110,7 @@ module _ (p : ℕ) (h : p ≤ 99999999) where
       mode true = refl
       mode false = refl
 
-  resume-length : (c : Bool) → length (resumeData p c) ≤ 13
+  pub resume-length : (c : Bool) → length (resumeData p c) ≤ 13
   unfolding resumeData
   resume-length true = rw length-append (omega (arith, decimal-length 7 p (omega arith) (omega arith)))
   resume-length false = rw length-append (omega (arith, decimal-length 7 p (omega arith) (omega arith)))
@@ -307,7 +307,7 @@ module _ (k : Bool) (c : Content) (bs : List ℕ) (e : formOf k c ≡ bytes bs) 
 
 -- a packet that is no DT is written alike in both modes
 pub plain-alike : (k m : Bool) (c : Content) → isBlock c ≡ false → formOf k c ≡ formOf m c
-unfolding formOf isBlock partsOf
+unfolding formOf isBlock kindOf
 plain-alike k m rr h = refl
 plain-alike k m rf h = refl
 plain-alike k m af h = refl

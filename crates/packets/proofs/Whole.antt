@@ -1,4 +1,4 @@
--- One whole packet: what its first bytes settle.
+-- One whole packet: what its first bytes say of it.
 -- Assumes nothing.
 use mathlib.Core.Path.{_≡_, refl, sym, ap, _∙_}
 use mathlib.Core.Bool.{Bool, true, false, _||_}
@@ -13,11 +13,11 @@ use borrow.Author.Tests.{leb-true, eqb-true, ltb-true}
 use Rattle.numbers.specs.Canonical.{isByte}
 use Rattle.fields.specs.Lists.{all}
 use Rattle.fields.proofs.Lists.{both}
-use Rattle.spans.specs.declared.Span.{Span}
-use Rattle.spans.specs.declared.Span.the-variants.{Open, Whole, Drop}
-use Rattle.spans.specs.Span.{known, paired, counted, total, span, lead, trail, placeAt, sizeOf}
+use Rattle.packets.specs.declared.spans.Span.{Span}
+use Rattle.packets.specs.declared.spans.Span.the-variants.{Open, Whole, Drop}
+use Rattle.packets.specs.Span.{known, paired, counted, total, span, lead, trail, placeAt, sizeOf}
 use Rattle.packets.specs.Packet.{dataOf, wholeOf, packetOf}
-use Rattle.spans.proofs.Laws.{at-whole, Case, none, unknown, one, wrong, whole, short, case, at-none, at-unknown, at-one, at-wrong, at-short, grown, size-within}
+use Rattle.packets.proofs.spans.Laws.{at-whole, Case, none, unknown, one, wrong, whole, short, case, at-none, at-unknown, at-one, at-wrong, at-short, grown, size-within}
 
 -- ---- One whole packet
 
@@ -73,7 +73,7 @@ counted-is P p q r s a h = go (eqb a 1) refl (eqb a 0x10) refl (eqb a 0x15) refl
     go false e false f false g true i = rw (eqb-true a 0x18 i) s
     go false e false f false g false i = let z : false ≡ true = simp (e, f, g, i) at h in let y : _≡_ {A = ℕ} 0 1 = cc in absurd (omega arith)
 
--- what such a first byte settles
+-- what such a first byte says
 module _ (a : ℕ) (h : counted a ≡ true) where
   pub counted-starts : known a ≡ true
   unfolding known

@@ -14,25 +14,25 @@ use Rattle.fields.specs.declared.Stamp.the-variants.{Present, Absent}
 use Rattle.fields.specs.Pick.{pick}
 use Rattle.numbers.specs.Canonical.{plain, capitals, isByte}
 use Rattle.fields.specs.Lists.{all, upTo}
-use Rattle.numerals.specs.Writing.{hex}
+use Rattle.numbers.specs.Writing.{hex}
 use Rattle.fields.specs.Buffer.{bytes}
 use Rattle.fields.proofs.Lists.{both, upTo-cut}
 use Rattle.numbers.proofs.RoundTrip.{size-back, hex-back}
 use Rattle.numbers.proofs.Reading.{size-below}
-use Rattle.spans.specs.declared.Span.the-variants.{Whole}
+use Rattle.packets.specs.declared.spans.Span.the-variants.{Whole}
 use Rattle.packets.specs.declared.HeaderRead.the-variants.{Good, Bad}
 use Rattle.packets.specs.declared.ResumeRead.{ResumeRead}
 use Rattle.packets.specs.declared.ResumeRead.the-variants.{Asked, Nothing}
 use Rattle.packets.specs.declared.Header.{Header}
 use Rattle.packets.specs.declared.HeaderRead.{HeaderRead}
 use Rattle.packets.specs.declared.Resume.{Resume}
-use Rattle.spans.specs.Span.{paired, dataLength, counted, total, span, lead, trail, placeAt}
+use Rattle.packets.specs.Span.{paired, dataLength, counted, total, span, lead, trail, placeAt}
 use Rattle.packets.specs.Packet.{stampOf, headerRead, resumeRead, checksum, isSound, dataOf, packetOf}
 use Rattle.packets.specs.Content.{Content, rr, rf, af, at, ca, rt, si, ef, et, ri, nr, cn, tx, hd, dt, re, contentOf, stampData, headerData, headerForm, blockForm, refusalForm, resumeData, resumeForm, requestForm, formOf}
 use Rattle.packets.specs.Canonical.{behind, isGood, isPresent, optionInForm, headerInForm, nakInForm, inForm}
 use Rattle.packets.proofs.RoundTrip.{header-cut, reads-back}
 use Rattle.packets.proofs.Parts.{HeaderParts, header-parts, stamp-parts, stamp-fits, ResumeParts, resume-parts}
-use Rattle.packets.proofs.Whole.{Framed, whole-framed, counted-ends, counted-data, one-to-six, known-is, byte-at, all-take}
+use Rattle.packets.proofs.Whole.{Framed, whole-framed, counted-ends, counted-data, one-to-six, known-is, byte-at}
 
 never : {A : Type 0} → false ≡ true → A
 never e = let z : _≡_ {A = ℕ} 0 1 = cc in absurd (omega arith)

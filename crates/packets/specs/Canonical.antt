@@ -8,14 +8,12 @@ use lib.Dec.{eqb}
 use Rattle.fields.specs.Pick.{pick}
 use Rattle.fields.specs.Lists.{upTo}
 use Rattle.numbers.specs.Canonical.{plain, capitals}
-use Rattle.fields.specs.declared.Stamp.{Stamp}
-use Rattle.fields.specs.declared.Stamp.the-variants.{Present, Absent}
 pub use Rattle.fields.specs.Stamps.{isPresent}
 use Rattle.packets.specs.declared.HeaderRead.{HeaderRead}
 use Rattle.packets.specs.declared.HeaderRead.the-variants.{Good, Bad}
 use Rattle.packets.specs.Packet.{stampOf, headerRead, resumeRead, isSound, placeOf, dataOf}
 use Rattle.packets.specs.Content.{Content, isAsked}
-use Rattle.packets.specs.Kind.{DT, partsOf}
+use Rattle.packets.specs.Kind.{DT, kindOf}
 
 -- what stands behind the first 00
 abbrev pub behind : List ℕ → List ℕ
@@ -46,4 +44,4 @@ inForm checked b =
 
 -- a DT, the only packet that is written otherwise in YappC than in plain YAPP
 unfoldable pub isBlock : Content → Bool
-isBlock c = eqb (partsOf c .kind) DT
+isBlock c = eqb (kindOf c) DT

@@ -7,9 +7,8 @@ use lib.Dec.{leb}
 use Rattle.fields.specs.Pick.{pick}
 use Rattle.fields.specs.Lists.{bytesAt}
 use Rattle.fields.specs.Name.{isName}
-use Rattle.numerals.specs.Writing.{decimal, hex}
+use Rattle.numbers.specs.Writing.{decimal, hex}
 use Rattle.fields.specs.Buffer.{Form, formless, bytes, formIf}
-use Rattle.fields.specs.declared.Place.{Place}
 use Rattle.fields.specs.declared.Stamp.{Stamp}
 use Rattle.fields.specs.declared.Stamp.the-variants.{Present, Absent}
 pub use Rattle.fields.specs.Stamps.{stampFits}

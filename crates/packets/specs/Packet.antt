@@ -1,28 +1,25 @@
 -- What the bytes of one packet say. (Document 01, "Packets of YAPP".)
-use Prim.Native.Nat.{ℕ, _+_, _-_, _%_}
-use mathlib.Core.List.{List, [], _∷_}
+use Prim.Native.Nat.{ℕ, _+_, _%_}
+use mathlib.Core.List.{List, [], sum}
 use mathlib.Core.Bool.{Bool, true, false}
 use lib.ListN.{length, getD, take, drop}
-use lib.Dec.{leb, ltb, eqb}
+use lib.Dec.{ltb, eqb}
 use Rattle.numbers.specs.declared.Number.{Number}
 use Rattle.numbers.specs.declared.Number.the-variants.{Value, Malformed as NoNumber}
 use Rattle.fields.specs.Pick.{pick}
 use Rattle.fields.specs.Lists.{bytesAt, upTo}
 use Rattle.fields.specs.Name.{isName}
 use Rattle.numbers.specs.Reading.{readSize, readHex}
-use Rattle.spans.specs.Span.{span, placeAt}
+use Rattle.packets.specs.Span.{span, placeAt}
 use Rattle.fields.specs.declared.Place.{Place}
-use Rattle.spans.specs.declared.Span.{Span}
-use Rattle.spans.specs.declared.Span.the-variants.{Open as Unfinished, Whole, Drop}
+use Rattle.packets.specs.declared.spans.Span.{Span}
+use Rattle.packets.specs.declared.spans.Span.the-variants.{Open as Unfinished, Whole, Drop}
 use Rattle.fields.specs.declared.Stamp.{Stamp}
 use Rattle.fields.specs.declared.Stamp.the-variants.{Present, Absent}
-use Rattle.packets.specs.declared.Header.{Header}
 use Rattle.packets.specs.declared.HeaderRead.{HeaderRead}
 use Rattle.packets.specs.declared.HeaderRead.the-variants.{Good, Bad}
-use Rattle.packets.specs.declared.Resume.{Resume}
 use Rattle.packets.specs.declared.ResumeRead.{ResumeRead}
 use Rattle.packets.specs.declared.ResumeRead.the-variants.{Asked, Nothing}
-use Rattle.packets.specs.declared.Block.{Block}
 use Rattle.packets.specs.declared.Packet.{Packet}
 use Rattle.packets.specs.declared.Packet.the-variants.{RR, RF, AF, AT, CA, RT, SI, RI, HD, Malformed, DT, EF, ET, NR, RE, CN, TX, Dropped, Open}
 
@@ -84,13 +81,10 @@ nakBy Nothing p = NR p
 
 -- ---- DT: 02 len data, and in YappC the checksum
 
-abbrev pub sum : List ℕ → ℕ
-sum [] = 0
-sum (x ∷ s) = x + sum s
-
 -- the sum of the data modulo 256
 unfoldable pub checksum : List ℕ → ℕ
-checksum s = sum s % 256
+unfolding sum
+checksum s = sum _+_ 0 s % 256
 
 -- whether the byte behind the data is their checksum; in plain YAPP there is none to disagree
 unfoldable pub isSound : Bool → Place → List ℕ → Bool

@@ -2,7 +2,14 @@
 use fields::Place;
 use fields::Stamp;
 ghost use mathlib.Core.Path.{_≡_};
+ghost use Rattle.packets.specs.Span.{lead as leadOf, trail as trailOf};
 ghost use Rattle.packets.specs.Packet.{checksum as checksumOf, placeOf};
+
+mod header_reader;
+pub mod kinds;
+pub mod packet_reader;
+pub mod resume_reader;
+pub mod spans;
 
 // A header: where the name stands in the packet, the size of the file, the stamp.
 pub struct Header {
@@ -51,32 +58,56 @@ pub enum Packet {
     Open,
 }
 
+// What the data of a header say.
 pub enum HeaderRead {
     Good(Header),
     Bad,
 }
 
+// Whether the data of a NAK are a resume.
 pub enum ResumeRead {
     Asked(Resume),
     Nothing,
+}
+
+// How many bytes stand before the data.
+fn lead(first: u8, second: u8) -> usize
+    ensures { λ r. ⌜ r ≡ leadOf first second ⌝ }
+{
+    if first == 5 {
+        if second == 2 {
+            return 3;
+        }
+    }
+    2
+}
+
+// How many bytes stand behind the data.
+fn trail(checked: bool, first: u8) -> usize
+    ensures { λ r. ⌜ r ≡ trailOf checked first ⌝ }
+{
+    if first == 2 {
+        if checked {
+            return 1;
+        }
+    }
+    0
 }
 
 // Where the data of the packet stand that b is.
 pub fn place_of(b: &[u8], checked: bool) -> Place
     ensures { λ r. ⌜ r ≡ placeOf checked (now (b .entry)) ⌝ }
 {
-    spans::place_at(
-        checked,
-        b.len(),
-        fields::byte_at(b, 0),
-        fields::byte_at(b, 1),
-    )
-}
-
-fn wide(c: u8) -> usize
-    ensures { λ r. ⌜ r ≡ c ⌝ }
-{
-    c as usize
+    let first = fields::byte_at(b, 0);
+    let start = lead(first, fields::byte_at(b, 1));
+    let rest = start + trail(checked, first);
+    if b.len() < rest {
+        return Place { start, len: 0 };
+    }
+    Place {
+        start,
+        len: b.len() - rest,
+    }
 }
 
 // The sum of the bytes modulo 256.
@@ -86,7 +117,7 @@ pub fn checksum(d: &[u8]) -> u8
     let mut acc: usize = 0;
     let mut i = 0;
     while i < d.len() {
-        acc = (acc + wide(d[i])) % 256;
+        acc = (acc + d[i] as usize) % 256;
         i += 1;
     }
     acc as u8

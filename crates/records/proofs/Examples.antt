@@ -1,4 +1,5 @@
--- Document 01's example: `lot7.csv`, size 300, kept 200. And the same with a stamp. Assumes nothing.
+-- Document 01's record (`lot7.csv`, size 300, kept 200), which `transfers` has written, is read; and the same with a stamp, both ways.
+-- Assumes nothing.
 use mathlib.Core.Path.{_≡_, refl}
 use mathlib.Core.List.{List, [], _∷_}
 use Prim.Native.Nat.{ℕ}
@@ -6,7 +7,7 @@ use Rattle.fields.specs.declared.Stamp.the-variants.{Present, Absent}
 use Rattle.fields.specs.Lists.{all}
 use Rattle.fields.specs.Name.{isNameByte, isName}
 use Rattle.numbers.specs.Reading.{littleValue}
-use Rattle.numerals.specs.Writing.{little}
+use Rattle.numbers.specs.Writing.{little}
 use Rattle.fields.specs.Buffer.{bytes}
 use Rattle.records.specs.declared.RecordRead.the-variants.{Good}
 use Rattle.records.specs.Record.{namedAt, kindRead, recordOf}
@@ -24,10 +25,6 @@ without = 0x13 ∷ 0x00 ∷ 0x01 ∷ 0x00 ∷ 0x2C ∷ 0x01 ∷ 0x00 ∷ 0x00 �
 abbrev stamped : List ℕ
 stamped =
     0x17 ∷ 0x00 ∷ 0x02 ∷ 0x00 ∷ 0x2C ∷ 0x01 ∷ 0x00 ∷ 0x00 ∷ 0xC8 ∷ 0x00 ∷ 0x00 ∷ 0x00 ∷ 0x00 ∷ 0x48 ∷ 0x21 ∷ 0x5A ∷ 0x08 ∷ lot7
-
-pub written : recordForm (saved lot7 300 200 Absent) ≡ bytes without
-unfolding recordForm isSaved isName isNameByte all recordBytes recordData kindOf stampBytes little
-written = refl
 
 pub written-stamped : recordForm (saved lot7 300 200 (Present 0x5A214800)) ≡ bytes stamped
 unfolding recordForm isSaved isName isNameByte all recordBytes recordData kindOf stampBytes little

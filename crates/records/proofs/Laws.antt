@@ -12,10 +12,10 @@ use Rattle.fields.specs.declared.Stamp.the-variants.{Present, Absent}
 use Rattle.fields.specs.Lists.{part}
 use Rattle.fields.specs.Name.{isName}
 use Rattle.numbers.specs.Reading.{readLittle}
-use Rattle.numerals.specs.Writing.{little}
+use Rattle.numbers.specs.Writing.{little}
 use Rattle.fields.specs.Buffer.{formless, bytes}
 use Rattle.numbers.proofs.Reading.{readLittle-is, little-form}
-use Rattle.numerals.proofs.Writing.{little-length}
+use Rattle.numbers.proofs.numerals.Writing.{little-length}
 use Rattle.records.specs.declared.RecordRead.the-variants.{Good, Unreadable}
 use Rattle.records.specs.Record.{numberAt, namedAt, kindRead, recordOf}
 use Rattle.records.specs.Saved.{Saved, saved, kindOf, stampBytes, recordData, recordBytes, stampFits, isSaved, recordForm}

@@ -13,10 +13,11 @@ use Rattle.fields.specs.declared.Stamp.the-variants.{Present, Absent}
 use Rattle.fields.specs.Lists.{part, all}
 use Rattle.fields.specs.Name.{isNameByte, isName}
 use Rattle.numbers.specs.Canonical.{isByte}
-use Rattle.numerals.specs.Writing.{little}
+use Rattle.numbers.specs.Writing.{little}
 use Rattle.fields.specs.Buffer.{bytes}
 use Rattle.fields.proofs.Lists.{both, all-append, name-length}
-use Rattle.numerals.proofs.Writing.{little-length}
+use Rattle.fields.proofs.Buffer.{form-is}
+use Rattle.numbers.proofs.numerals.Writing.{little-length}
 use Rattle.numbers.proofs.RoundTrip.{little-value, little-bytes-back, little-below, little-bytes}
 use Rattle.records.specs.declared.Record.{Record}
 use Rattle.records.specs.declared.RecordRead.the-variants.{Good, Unreadable}
@@ -36,16 +37,12 @@ pub record Formed (s : Saved) (bs : List ℕ) : Type 0 where
 
 pub formed : (s : Saved) (bs : List ℕ) → recordForm s ≡ bytes bs → Formed s bs
 unfolding recordForm isSaved
-formed s bs e = go (isSaved s) refl
-  where
-    go : (t : Bool) → isSaved s ≡ t → Formed s bs
-    go true h =
-        let p = both (isName (s .name)) _ h in
-        let q = both (leb (s .size) 99999999) _ (p .1) in
-        let r = both (leb (s .kept) 0xFFFFFFFF) _ (q .1) in
-        let f = rw h at e in
-        record { named = p .0; sized = leb-true (s .size) 99999999 (q .0); held = leb-true (s .kept) 0xFFFFFFFF (r .0); fits = r .1; is = cc }
-    go false h = let f = rw h at e in let z : _≡_ {A = ℕ} 0 1 = cc in absurd (omega arith)
+formed s bs e =
+    let f = form-is (isSaved s) (recordBytes s) bs e in
+    let p = both (isName (s .name)) _ (f .0) in
+    let q = both (leb (s .size) 99999999) _ (p .1) in
+    let r = both (leb (s .kept) 0xFFFFFFFF) _ (q .1) in
+    record { named = p .0; sized = leb-true (s .size) 99999999 (q .0); held = leb-true (s .kept) 0xFFFFFFFF (r .0); fits = r .1; is = f .1 }
 
 -- the fields one after the other
 bytes-cut : (name : List ℕ) (size kept : ℕ) (stamp : Stamp) → recordBytes (saved name size kept stamp)

@@ -43,6 +43,6 @@ unfoldable pub recordOf : List ℕ → RecordRead
 recordOf b = pick (eqb (2 + numberAt 0 2 b) (length b)) (kindRead (numberAt 2 2 b) b) Unreadable
 
 -- document 01's number for each answer: 1 record unreadable
-unfoldable pub numberOf : RecordRead → ℕ
-numberOf (Good r) = 0
-numberOf Unreadable = 1
+unfoldable pub readNumber : RecordRead → ℕ
+readNumber (Good r) = 0
+readNumber Unreadable = 1

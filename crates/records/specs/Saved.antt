@@ -1,12 +1,12 @@
 -- A saved record with its name, and the bytes that it is written as. (Document 01, "The saved record".)
 use Prim.Native.Nat.{ℕ}
-use mathlib.Core.Bool.{Bool, true, _&&_}
+use mathlib.Core.Bool.{Bool, _&&_}
 use mathlib.Core.List.{List, [], _++_}
 use lib.ListN.{length}
 use lib.Dec.{leb}
 use Rattle.fields.specs.Lists.{bytesAt}
 use Rattle.fields.specs.Name.{isName}
-use Rattle.numerals.specs.Writing.{little}
+use Rattle.numbers.specs.Writing.{little}
 use Rattle.fields.specs.Buffer.{Form, formIf}
 use Rattle.fields.specs.declared.Stamp.{Stamp}
 use Rattle.fields.specs.declared.Stamp.the-variants.{Present, Absent}

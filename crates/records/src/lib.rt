@@ -2,6 +2,9 @@
 use fields::Place;
 use fields::Stamp;
 
+pub mod record_reader;
+pub mod record_writer;
+
 // A record: the announced size, the bytes kept, the stamp, and where the name stands in the record's bytes.
 pub struct Record {
     pub size: u32,

@@ -7,26 +7,32 @@
 //     leave, frame BYTES, timer, stop   a call, with a reply buffer of 259 bytes
 //     258 CALL                          the same call with one of 258 bytes
 //     record                            the record, written into 81 bytes
+//     80 record                         the same into 80 bytes
 //
 // In a record and a frame `<0D>` is the byte 0D. Any other line is a title.
+// A line has at most 1200 bytes, a script 16384: a longer one is not played, and a line says so.
 use bin::ReceiverState;
 use bin_receiver::Receiver;
 use bin_receiver::ReceiverAnswer;
 use calls::Status;
+use fields::buffers;
 use libc::STDIN_FILENO;
-use numbers::Number;
-use printing::put;
-use printing::put_answer;
-use printing::put_change;
-use printing::put_number;
-use printing::put_outcome;
-use printing::put_status;
-use printing::put_stored;
-use printing::put_text;
-ghost use Prim.Native.Nat.{_≤_, _<_};
-ghost use lib.ListN.{length};
-
-mod printing;
+use script::printing::put;
+use script::printing::put_answer;
+use script::printing::put_number;
+use script::printing::put_outcome;
+use script::printing::put_status;
+use script::printing::put_stored;
+use script::printing::put_text;
+use script::printing::put_touched;
+use script::reading::before;
+use script::reading::behind;
+use script::reading::decode;
+use script::reading::is_word;
+use script::reading::number;
+use script::reading::place_in;
+use script::reading::playable;
+use script::reading::word;
 
 // ---- Printing
 
@@ -42,186 +48,6 @@ fn put_state(state: ReceiverState) {
         ReceiverState::Extended { crc } => put_number(b" Extended ", crc as usize),
         ReceiverState::Ended { outcome } => put_outcome(b" ended ", outcome),
     }
-}
-
-fn put_reply(reply: &[u8]) {
-    let before = [0xEE; 259];
-    put_change(b"; reply", fields::part(&before, 0, reply.len()), reply);
-}
-
-// ---- Reading the script
-
-// The word with this number, from 0 on; of no bytes where there is none.
-fn word(line: &[u8], number: usize) -> &[u8] {
-    let mut rest = line;
-    let mut i = 0;
-    while i < number {
-        let end = fields::find(rest, 32);
-        rest = fields::part(fields::part(rest, end, rest.len()), 1, rest.len());
-        i += 1;
-    }
-    fields::part(rest, 0, fields::find(rest, 32))
-}
-
-// Whether the word with this number is this byte.
-fn has(line: &[u8], number: usize, byte: u8) -> bool {
-    let one = [byte];
-    names::same(word(line, number), &one)
-}
-
-fn value(s: &[u8]) -> usize
-    ensures { λ r. ⌜ r ≤ 4294967295 ⌝ }
-{
-    match digit_reader::read_size(s) {
-        Number::Value(v) => v as usize,
-        Number::Malformed => 0,
-    }
-}
-
-// The word with this number as a number of up to nine digits.
-fn number(line: &[u8], at: usize) -> usize {
-    let s = word(line, at);
-    if s.len() == 9 {
-        return value(fields::part(s, 0, 1)) * 100_000_000 + value(fields::part(s, 1, 8));
-    }
-    value(s)
-}
-
-// The value of a hex digit in capitals.
-fn nibble(c: u8) -> u8
-    ensures { λ r. ⌜ r < 16 ⌝ }
-{
-    if c < 48 {
-        return 0;
-    }
-    if c < 58 {
-        return c - 48;
-    }
-    if c < 65 {
-        return 0;
-    }
-    if c < 71 {
-        return c - 55;
-    }
-    0
-}
-
-// The byte that s starts with, as it is or as `<0D>`.
-fn byte_of(s: &[u8]) -> u8 {
-    let c = fields::byte_at(s, 0);
-    if c == b'<' {
-        return nibble(fields::byte_at(s, 1)) * 16 + nibble(fields::byte_at(s, 2));
-    }
-    c
-}
-
-// Where the next byte starts.
-fn next(s: &[u8], i: usize) -> usize
-    requires { ⌜ i < length (now s) ⌝ }
-    ensures { λ r. ⌜ (i < r) × (r ≤ length (now (s .entry))) ⌝ }
-{
-    if fields::byte_at(s, i) == b'<' {
-        if 4 < s.len() - i {
-            return i + 4;
-        }
-        return s.len();
-    }
-    i + 1
-}
-
-// Lays the bytes that s says into out, and returns how many.
-fn decode(s: &[u8], out: &mut [u8]) -> usize {
-    let mut i = 0;
-    let mut n = 0;
-    while i < s.len() {
-        n = buffers::append_byte(out, n, byte_of(fields::part(s, i, 4)));
-        i = next(s, i);
-    }
-    n
-}
-
-// The number of the first word among these words, of which there are seven; 7 where it is none of them.
-fn place_in(words: &[u8], line: &[u8]) -> usize {
-    let first = word(line, 0);
-    let mut i: usize = 0;
-    while i < 7 {
-        if names::same(word(words, i), first) {
-            return i;
-        }
-        i += 1;
-    }
-    i
-}
-
-// What a line says to do: a call, 0 to 3; a beginning, 4 and 5; to show the record, 6; nothing, 7.
-fn call_of(line: &[u8]) -> usize {
-    place_in(b"leave frame timer stop fresh resume record", line)
-}
-
-// Whether the reply buffer is to have 258 bytes.
-fn is_small(line: &[u8]) -> bool {
-    names::same(word(line, 0), b"258")
-}
-
-// ---- The receiver
-
-fn put_begun(m: Receiver) {
-    put(b" ->");
-    put_state(m.state());
-}
-
-fn resume_from(record: &[u8], line: &[u8]) -> Receiver {
-    Receiver::resume(record, number(line, 2), has(line, 3, b'?'))
-}
-
-fn resume(line: &[u8]) -> Receiver {
-    let mut room = [0u8; 100];
-    let n = decode(word(line, 1), &mut room);
-    resume_from(fields::part(&room, 0, n), line)
-}
-
-fn fresh(line: &[u8]) -> Receiver {
-    Receiver::fresh(number(line, 1), has(line, 2, b'?'))
-}
-
-fn fill(area: &mut [u8]) {
-    let filled = [0xEE; 32];
-    buffers::append_bytes(area, 0, &filled);
-}
-
-fn begin(call: usize, line: &[u8], area: &mut [u8]) -> Receiver {
-    if call == 5 {
-        return resume(line);
-    }
-    fill(area);
-    fresh(line)
-}
-
-fn fail(m: Receiver, call: usize, area: &[u8], reply: &mut [u8]) -> ReceiverAnswer {
-    if call == 2 {
-        return m.timeout(area, reply);
-    }
-    m.cancel(area, reply)
-}
-
-fn leave(m: Receiver, call: usize, area: &[u8], reply: &mut [u8]) -> ReceiverAnswer {
-    if call == 0 {
-        return m.transmit(area, reply);
-    }
-    fail(m, call, area, reply)
-}
-
-fn call_receiver(
-    m: Receiver,
-    call: usize,
-    frame: &[u8],
-    area: &mut [u8],
-    reply: &mut [u8],
-) -> ReceiverAnswer {
-    if call == 1 {
-        return m.receive(frame, area, reply);
-    }
-    leave(m, call, area, reply)
 }
 
 fn put_end(status: Status, m: Receiver) {
@@ -244,101 +70,136 @@ fn show(got: ReceiverAnswer, frame: &[u8], reply: &[u8]) {
         got.stored,
         fields::bytes_at(frame, got.shown),
     );
-    put_reply(reply);
+    put_touched(b"; reply", reply);
+}
+
+// ---- Beginnings
+
+fn resume_from(record: &[u8], line: &[u8]) -> Receiver {
+    Receiver::resume(record, number(word(line, 2)), is_word(line, 3, b"?"))
+}
+
+fn begin_resume(line: &[u8]) -> Receiver {
+    let mut record = [0u8; 1200];
+    let n = decode(word(line, 1), &mut record);
+    resume_from(fields::part(&record, 0, n), line)
+}
+
+// With no record the area is filled anew, with one it stays.
+fn begin(which: usize, line: &[u8], area: &mut [u8]) -> Receiver {
+    if which == 5 {
+        return begin_resume(line);
+    }
+    let filled = [0xEE; 32];
+    buffers::append_bytes(area, 0, &filled);
+    Receiver::fresh(number(word(line, 1)), is_word(line, 2, b"?"))
+}
+
+fn put_begun(m: Receiver) {
+    put(b" ->");
+    put_state(m.state());
+}
+
+// ---- Calls
+
+fn call_receiver(
+    m: Receiver,
+    which: usize,
+    frame: &[u8],
+    area: &mut [u8],
+    reply: &mut [u8],
+) -> ReceiverAnswer {
+    match which {
+        0 => m.transmit(area, reply),
+        1 => m.receive(frame, area, reply),
+        2 => m.timeout(area, reply),
+        _ => m.cancel(area, reply),
+    }
 }
 
 // A call with the bytes that a word says.
-fn heard(m: Receiver, call: usize, text: &[u8], area: &mut [u8], reply: &mut [u8]) -> Receiver {
-    let mut room = [0u8; 300];
-    let n = decode(text, &mut room);
-    let frame = fields::part(&room, 0, n);
-    let got = call_receiver(m, call, frame, area, reply);
+fn hand(m: Receiver, which: usize, text: &[u8], area: &mut [u8], reply: &mut [u8]) -> Receiver {
+    let mut space = [0u8; 1200];
+    let n = decode(text, &mut space);
+    let frame = fields::part(&space, 0, n);
+    let got = call_receiver(m, which, frame, area, reply);
     show(got, frame, reply);
     got.receiver
 }
 
-fn hand(m: Receiver, call: usize, text: &[u8], area: &mut [u8], reply: &mut [u8]) -> Receiver {
+fn call(m: Receiver, which: usize, text: &[u8], area: &mut [u8], reply: &mut [u8]) -> Receiver {
     let mut old = [0u8; 32];
     buffers::append_bytes(&mut old, 0, area);
-    let next = heard(m, call, text, area, reply);
-    put_stored(b"; area", &old, area);
+    let next = hand(m, which, text, area, reply);
+    put_stored(&old, area);
     next
 }
 
+// The record into 81 bytes, and into 80.
 fn put_record(m: Receiver) {
-    let mut space = [0xEE; 81];
-    let buf: &mut [u8] = &mut space;
-    put_answer(m.record(buf), buf);
-    put_buffer(buf);
+    let mut buf = [0xEE; 81];
+    let got = m.record(&mut buf);
+    put_answer(got, &buf);
 }
 
-fn put_buffer(buf: &[u8]) {
-    let before = [0xEE; 81];
-    put_change(b"; buffer", &before, buf);
+fn put_record_80(m: Receiver) {
+    let mut buf = [0xEE; 80];
+    let got = m.record(&mut buf);
+    put_answer(got, &buf);
 }
 
+// What a line says to do: a call, 0 to 3; a beginning, 4 and 5; to show the record, 6 and 7; nothing, 8.
 fn act(m: Receiver, line: &[u8], area: &mut [u8], reply: &mut [u8]) -> Receiver {
-    let call = call_of(line);
-    if call < 4 {
-        return hand(m, call, word(line, 1), area, reply);
+    let which = place_in(b"leave frame timer stop fresh resume record 80", 8, line);
+    if which < 4 {
+        return call(m, which, word(line, 1), area, reply);
     }
-    if call < 6 {
-        let begun = begin(call, line, area);
+    if which < 6 {
+        let begun = begin(which, line, area);
         put_begun(begun);
         return begun;
     }
-    if call == 6 {
+    if which == 6 {
         put_record(m);
+    }
+    if which == 7 {
+        put_record_80(m);
     }
     m
 }
 
-// A line with a reply buffer of 259 bytes, and with one of 258.
-fn turn_259(m: Receiver, line: &[u8], area: &mut [u8]) -> Receiver {
-    let mut reply = [0xEE; 259];
-    act(m, line, area, &mut reply)
-}
-
-fn turn_258(m: Receiver, line: &[u8], area: &mut [u8]) -> Receiver {
+// A line with a reply buffer of 258 bytes, and with one of 259.
+fn act_258(m: Receiver, line: &[u8], area: &mut [u8]) -> Receiver {
     let mut reply = [0xEE; 258];
     act(m, line, area, &mut reply)
 }
 
 fn turn(m: Receiver, line: &[u8], area: &mut [u8]) -> Receiver {
-    if is_small(line) {
-        return turn_258(m, fields::part(line, 4, line.len()), area);
+    if is_word(line, 0, b"258") {
+        return act_258(m, behind(line, b' '), area);
     }
-    turn_259(m, line, area)
-}
-
-// Where the line behind starts, at most at the script's end.
-fn behind(at: usize, line: usize, len: usize) -> usize
-    requires { ⌜ at < len ⌝ }
-    ensures { λ r. ⌜ (at < r) × (r ≤ len) ⌝ }
-{
-    if line < len - at {
-        return at + line + 1;
-    }
-    len
+    let mut reply = [0xEE; 259];
+    act(m, line, area, &mut reply)
 }
 
 fn run(script: &[u8]) {
     let mut space = [0xEE; 32];
     let area: &mut [u8] = &mut space;
     let mut m = Receiver::fresh(32, false);
-    let mut at = 0;
-    while at < script.len() {
-        let rest = fields::part(script, at, script.len());
-        let line = fields::part(rest, 0, fields::find(rest, 10));
+    let mut rest = script;
+    while 0 < rest.len() {
+        let line = before(rest, b'\n');
         put(line);
         m = turn(m, line, area);
         put(b"\n");
-        at = behind(at, line.len(), script.len());
+        let next = behind(rest, b'\n');
+        rest = next;
     }
 }
 
+// One byte more than a script may have, so that a longer one shows.
 fn main() {
-    let mut script = [0u8; 16384];
+    let mut script = [0u8; 16385];
     let n = io::read_full(STDIN_FILENO, &mut script);
-    run(fields::part(&script, 0, n));
+    run(playable(fields::part(&script, 0, n)));
 }

@@ -3,12 +3,13 @@ use fields::Place;
 use lines::Frame;
 use lines::Kept;
 use lines::Line;
-use printing::put;
-use printing::put_bytes;
-use printing::put_number;
-ghost use Prim.Native.Nat.{_≤_, _<_};
-
-mod printing;
+use lines::line_reader;
+use numbers::hex_writer;
+use script::printing::put;
+use script::printing::put_bytes;
+use script::printing::put_number;
+use script::reading::before;
+use script::reading::behind;
 
 fn put_stamp(v: u32) {
     let mut digits = [0u8; 8];
@@ -71,25 +72,13 @@ fn show_beginnings(b: &[u8]) {
     }
 }
 
-// Where the frame behind starts, at most at the end.
-fn behind(at: usize, frame: usize, len: usize) -> usize
-    requires { ⌜ at < len ⌝ }
-    ensures { λ r. ⌜ (at < r) × (r ≤ len) ⌝ }
-{
-    if frame < len - at {
-        return at + frame + 1;
-    }
-    len
-}
-
 // Every frame of these, with a `~` behind each.
 fn show_all(frames: &[u8]) {
-    let mut at = 0;
-    while at < frames.len() {
-        let rest = fields::part(frames, at, frames.len());
-        let n = fields::find(rest, b'~');
-        show(fields::part(rest, 0, n));
-        at = behind(at, n, frames.len());
+    let mut rest = frames;
+    while 0 < rest.len() {
+        show(before(rest, b'~'));
+        let next = behind(rest, b'~');
+        rest = next;
     }
 }
 

@@ -1,29 +1,17 @@
 // Writes and reads saved records: document 01's example, records within and outside the limits, malformed ones, and every
 // beginning of one. One line a case: what was written, or 20 or 22; what was read, or 1.
+use calls::outcomes;
 use fields::Stamp;
 use fields::Written;
-use printing::put;
-use printing::put_number;
 use records::Record;
 use records::RecordRead;
-ghost use Prim.Native.Nat.{_≤_, _<_};
-
-mod printing;
-
-fn print_byte(b: u8) {
-    let mut digits = [0u8; 2];
-    hex_writer::fill_hex(&mut digits, b as u32);
-    put(b" ");
-    put(&digits);
-}
-
-fn print_bytes(s: &[u8]) {
-    let mut i = 0;
-    while i < s.len() {
-        print_byte(s[i]);
-        i += 1;
-    }
-}
+use records::record_reader;
+use records::record_writer;
+use script::printing::put;
+use script::printing::put_hex;
+use script::printing::put_number;
+use script::reading::before;
+use script::reading::behind;
 
 fn print_stamp(stamp: Stamp) {
     match stamp {
@@ -59,34 +47,24 @@ fn read(label: &[u8], b: &[u8]) {
     print_read(b);
 }
 
-// A case is a label, a colon and what stands behind it.
-fn label_of(case: &[u8]) -> &[u8] {
-    fields::part(case, 0, fields::find(case, b':'))
-}
-
-fn behind_colon(case: &[u8]) -> &[u8] {
-    let n = fields::find(case, b':');
-    fields::part(fields::part(case, n, case.len()), 1, case.len())
-}
-
 // What was written, and what that reads as.
 fn print_written(label: &[u8], buf: &[u8], written: Written) {
     let Written::Bytes(n) = written else {
         put_number(b" ", outcomes::written_number(written) as usize);
         return put(b"\n");
     };
-    print_bytes(fields::part(buf, 0, n));
+    put_hex(fields::part(buf, 0, n));
     put(b"\n");
     read(label, fields::part(buf, 0, n));
 }
 
-// Writes the record of a name, which stands behind the label, into buf.
+// A case is a label, a colon and what stands behind it. Writes the record of a name, which stands behind the label, into buf.
 fn save(case: &[u8], buf: &mut [u8], size: u32, kept: u32, stamp: Stamp) {
-    let label = label_of(case);
+    let label = before(case, b':');
     put(b"write ");
     put(label);
     put(b":");
-    let written = record_writer::write(buf, behind_colon(case), size, kept, stamp);
+    let written = record_writer::write(buf, behind(case, b':'), size, kept, stamp);
     print_written(label, buf, written);
 }
 
@@ -147,29 +125,17 @@ fn write_small() {
     write_80(b"no name into 80 bytes:", 300, 200);
 }
 
-// Where what is behind a part starts, at most at the end.
-fn behind(at: usize, part: usize, len: usize) -> usize
-    requires { ⌜ at < len ⌝ }
-    ensures { λ r. ⌜ (at < r) × (r ≤ len) ⌝ }
-{
-    if part < len - at {
-        return at + part + 1;
-    }
-    len
-}
-
 fn read_case(case: &[u8]) {
-    read(label_of(case), behind_colon(case));
+    read(before(case, b':'), behind(case, b':'));
 }
 
 // Every case of these, with a `~` behind each.
 fn read_all(cases: &[u8]) {
-    let mut at = 0;
-    while at < cases.len() {
-        let rest = fields::part(cases, at, cases.len());
-        let n = fields::find(rest, b'~');
-        read_case(fields::part(rest, 0, n));
-        at = behind(at, n, cases.len());
+    let mut rest = cases;
+    while 0 < rest.len() {
+        read_case(before(rest, b'~'));
+        let next = behind(rest, b'~');
+        rest = next;
     }
 }
 

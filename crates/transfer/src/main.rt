@@ -2,11 +2,16 @@
 // seed picks, and the transfer is resumed from the receiver's record by either protocol until the file is whole.
 //
 //     transfer [PATH [SEED]]
+use fields::names;
 use link::Saved;
+use numbers::digit_reader;
+use printing::fail;
 use printing::put;
 use printing::put_number;
 use printing::put_word;
+use printing::say;
 use records::RecordRead;
+use records::record_reader;
 ghost use mathlib.Core.Path.{_≡_};
 ghost use lib.ListN.{length};
 
@@ -28,6 +33,13 @@ const YAPP: usize = 0;
 const YAPPC: usize = 1;
 
 const BIN: usize = 2;
+
+// How many bytes of the buffer a file filled.
+enum FileRead {
+    Bytes(usize),
+    // What failed is said already.
+    Failed,
+}
 
 // One byte more than the largest file, so that a larger one shows.
 fn file_space() -> [u8; 1048577]
@@ -68,48 +80,49 @@ fn pick_way(own: usize, seed: u64) -> usize {
     own
 }
 
-fn print_way(way: usize) {
-    put_word(b"YAPP|YappC|#BIN#|", way);
+fn print_way(way: usize, failed: &mut bool) {
+    put_word(b"YAPP|YappC|#BIN#|", way, failed);
 }
 
 // ---- Sessions
 
-fn print_good(len: usize, kept: u32, size: u32) {
+fn print_good(len: usize, kept: u32, size: u32, failed: &mut bool) {
     let words: &[u8] = b"  record of | bytes: kept | of |\n|";
-    put_number(words, 0, len);
-    put_number(words, 1, kept as usize);
-    put_number(words, 2, size as usize);
-    put_word(words, 3);
+    put_number(words, 0, len, failed);
+    put_number(words, 1, kept as usize, failed);
+    put_number(words, 2, size as usize, failed);
+    put_word(words, 3, failed);
 }
 
-fn print_read(len: usize, read: RecordRead) {
+fn print_read(len: usize, read: RecordRead, failed: &mut bool) {
     match read {
-        RecordRead::Good(r) => print_good(len, r.kept, r.size),
-        RecordRead::Unreadable => put(b"  record unreadable\n"),
+        RecordRead::Good(r) => print_good(len, r.kept, r.size, failed),
+        RecordRead::Unreadable => put(b"  record unreadable\n", failed),
     }
 }
 
-fn print_record(saved: Saved) {
+fn print_record(saved: Saved, failed: &mut bool) {
     let bytes = saved.bytes;
     if saved.count == 0 {
-        return put(b"  no record\n");
+        return put(b"  no record\n", failed);
     }
     print_read(
         saved.count,
         record_reader::record_of(fields::part(&bytes, 0, saved.count)),
+        failed,
     );
 }
 
-fn print_session(number: u32, way: usize, left: usize) {
+fn print_session(number: u32, way: usize, left: usize, failed: &mut bool) {
     let words: &[u8] = b"\nsession | by |, the link breaks after | bytes|\n|";
-    put_number(words, 0, number as usize);
-    put_word(words, 1);
-    print_way(way);
+    put_number(words, 0, number as usize, failed);
+    put_word(words, 1, failed);
+    print_way(way, failed);
     if number <= BREAKS {
-        put_number(words, 2, left);
-        put_word(words, 3);
+        put_number(words, 2, left, failed);
+        put_word(words, 3, failed);
     }
-    put_word(words, 4);
+    put_word(words, 4, failed);
 }
 
 // How many bytes the link carries in a session: as the seed picks, or any number once it has broken often enough.
@@ -136,55 +149,62 @@ fn session(
     name: &[u8],
     file: &[u8],
     area: &mut [u8],
+    failed: &mut bool,
 ) -> Saved {
     let way = way_of(number, own, seed);
     let left = left_of(number, next(seed), file.len());
-    print_session(number, way, left);
+    print_session(number, way, left, failed);
     if way == BIN {
-        return bin_link::session(before, name, left, file, area);
+        return bin_link::session(before, name, left, file, area, failed);
     }
-    yapp_link::session(before, way == YAPPC, name, left, file, area)
+    yapp_link::session(before, way == YAPPC, name, left, file, area, failed)
 }
 
-// Sessions until the file is whole.
-fn sessions(own: usize, seed: u64, name: &[u8], file: &[u8], area: &mut [u8]) {
+// Sessions until the file is whole, or a write failed.
+fn sessions(own: usize, seed: u64, name: &[u8], file: &[u8], area: &mut [u8], failed: &mut bool) {
     let mut saved = link::nothing();
     let mut state = next(seed);
     let mut number = 1;
     while number <= BREAKS + 1 {
-        saved = session(number, own, state, saved, name, file, area);
+        saved = session(number, own, state, saved, name, file, area, failed);
         state = next(next(state));
-        print_record(saved);
+        print_record(saved, failed);
         if saved.whole {
+            return;
+        }
+        if *failed {
             return;
         }
         number += 1;
     }
 }
 
-fn print_title(own: usize, name: &[u8], size: usize) {
+fn print_title(own: usize, name: &[u8], size: usize, failed: &mut bool) {
     let words: &[u8] = b"\n|, | bytes, by |";
-    put_word(words, 0);
-    put(name);
-    put_number(words, 1, size);
-    put_word(words, 2);
-    print_way(own);
-    put_word(words, 0);
+    put_word(words, 0, failed);
+    put(name, failed);
+    put_number(words, 1, size, failed);
+    put_word(words, 2, failed);
+    print_way(own, failed);
+    put_word(words, 0, failed);
 }
 
-fn print_compared(area: &[u8], file: &[u8]) {
+fn print_compared(area: &[u8], file: &[u8], failed: &mut bool) {
     if names::same(fields::part(area, 0, file.len()), file) {
-        return put(b"the area equals the file\n");
+        return put(b"the area equals the file\n", failed);
     }
-    put(b"THE AREA DIFFERS FROM THE FILE\n");
+    put(b"THE AREA DIFFERS FROM THE FILE\n", failed);
 }
 
-fn transfer(own: usize, seed: u64, name: &[u8], file: &[u8]) {
+fn transfer(own: usize, seed: u64, name: &[u8], file: &[u8], failed: &mut bool) {
     let mut space = area_space();
     let area: &mut [u8] = &mut space;
-    print_title(own, name, file.len());
-    sessions(own, seed, name, file, area);
-    print_compared(area, file);
+    print_title(own, name, file.len(), failed);
+    if *failed {
+        return;
+    }
+    sessions(own, seed, name, file, area, failed);
+    print_compared(area, file, failed);
 }
 
 // ---- The arguments
@@ -206,47 +226,62 @@ fn name_of(path: &[u8]) -> &[u8] {
     fields::part(path, name_from(path), path.len())
 }
 
-fn say(what: &[u8], path: &[u8]) {
-    io::write_all(libc::STDERR_FILENO, path);
-    io::write_all(libc::STDERR_FILENO, what);
-}
-
 fn all_ways(name: &[u8], seed: u64, file: &[u8]) {
-    transfer(YAPP, seed, name, file);
-    transfer(YAPPC, seed, name, file);
-    transfer(BIN, seed, name, file);
+    let mut failed = false;
+    transfer(YAPP, seed, name, file, &mut failed);
+    transfer(YAPPC, seed, name, file, &mut failed);
+    transfer(BIN, seed, name, file, &mut failed);
 }
 
 fn try_all(path: &[u8], seed: u64, file: &[u8]) {
     let name = name_of(path);
     if LARGEST < file.len() {
-        return say(b": over 1048576 bytes\n", path);
+        return say(path, b": over 1048576 bytes\n");
     }
     if names::is_name(name) {
         return all_ways(name, seed, file);
     }
-    say(b": not a name that a header can carry\n", path)
+    say(path, b": not a name that a header can carry\n")
 }
 
-// Whether bytes can be read: a folder opens, and gives none.
-fn is_readable(fd: i32) -> bool {
-    let mut none = [0; 0];
-    0 <= libc::read(fd, &mut none)
+// Reads up to the end of the file or of the buffer. A read that fails is said, and is not the end of the file.
+fn read_file(fd: i32, path: &[u8], buf: &mut [u8]) -> FileRead {
+    let mut n = 0;
+    while n < buf.len() {
+        let rest = &mut buf[n..];
+        let got = libc::read(fd, rest);
+        if got < 0 {
+            fail(path);
+            return FileRead::Failed;
+        }
+        let more = io::count(got, rest);
+        if more == 0 {
+            break;
+        }
+        n += more;
+    }
+    FileRead::Bytes(n)
+}
+
+fn read_path(path: &[u8], buf: &mut [u8]) -> FileRead {
+    let fd = os::open_read(path);
+    if fd < 0 {
+        fail(path);
+        return FileRead::Failed;
+    }
+    let read = read_file(fd, path, buf);
+    libc::close(fd);
+    read
 }
 
 fn run(path: &[u8], seed: u64) {
     let mut space = file_space();
     let buf: &mut [u8] = &mut space;
-    let fd = os::open_read(path);
-    if fd < 0 {
-        return os::fail(path);
+    let read = read_path(path, buf);
+    match read {
+        FileRead::Bytes(n) => try_all(path, seed, fields::part(buf, 0, n)),
+        FileRead::Failed => {}
     }
-    if !is_readable(fd) {
-        return os::fail(path);
-    }
-    let n = io::read_full(fd, buf);
-    libc::close(fd);
-    try_all(path, seed, fields::part(buf, 0, n));
 }
 
 // The sample, from the root of the repository.
@@ -257,8 +292,12 @@ fn run_sample(seed: u64) {
 fn run_seeded(path: &[u8], seed: &[u8]) {
     match digit_reader::read_size(seed) {
         numbers::Number::Value(n) => run(path, n as u64),
-        numbers::Number::Malformed => say(b"a seed is a number of at most 8 digits\n", b""),
+        numbers::Number::Malformed => say(b"", b"a seed is a number of at most 8 digits\n"),
     }
+}
+
+fn usage() {
+    io::write_all(libc::STDERR_FILENO, b"usage: transfer [PATH [SEED]]\n");
 }
 
 // A path that is empty here was too long for its buffer, or empty. The seed is 1 where none is given.
@@ -267,10 +306,10 @@ fn start(words: usize, path: &[u8], seed: &[u8]) {
         return run_sample(1);
     }
     if 3 < words {
-        return say(b"transfer [PATH [SEED]]\n", b"");
+        return usage();
     }
     if path.len() == 0 {
-        return say(b"a path has 1 to 4095 bytes\n", b"");
+        return say(b"", b"a path has 1 to 4095 bytes\n");
     }
     if words < 3 {
         return run(path, 1);

@@ -4,9 +4,20 @@ use crate::printing::put_number;
 use crate::printing::put_word;
 use bin::ReceiverState as BinReceiverState;
 use bin::SenderState as BinSenderState;
+use calls::RecordAnswer;
+use calls::outcomes;
 use lines::Frame;
+use lines::line_reader;
+use packets::kinds;
+use packets::packet_reader;
 use yapp::ReceiverState;
 use yapp::SenderState;
+ghost use mathlib.Core.Path.{_≡_};
+ghost use mathlib.Core.List.{[]};
+ghost use Rattle.packets.specs.Content.{contentOf};
+ghost use Rattle.packets.specs.Kind.{kindOf};
+ghost use Rattle.packets.specs.Packet.{packetOf};
+ghost use Rattle.transfer.specs.Numbers.{senderNumber, receiverNumber, binSenderNumber, binReceiverNumber, isEnd, lineNumber, frameNumber, recordCount};
 
 // An end that ended with success, as the four functions below number it.
 pub const SUCCESS: usize = 480;
@@ -20,9 +31,9 @@ pub const RECEIVER: usize = 1;
 pub const SENDING: usize = 320;
 
 // An outcome's number and its words; 18, 19, 20 and 22 are no outcomes.
-fn print_outcome(number: usize) {
-    put_number(b"|", 0, number);
-    put(b" ");
+fn print_outcome(number: usize, failed: &mut bool) {
+    put_number(b"|", 0, number, failed);
+    put(b" ", failed);
     put_word(
         b"success|\
           record unreadable|\
@@ -45,21 +56,25 @@ fn print_outcome(number: usize) {
           |||second file|\
           |stopped by the operator|",
         number,
+        failed,
     );
 }
 
 // A state's number is the place of its word times 32, and the outcome's number where it has one.
-fn print_state(number: usize) {
+fn print_state(number: usize, failed: &mut bool) {
     put_word(
         b"S|SH|SD|SE|ST|R|RH|RD|start|wait|send|waiting|basic|extended|CW, |ended, |",
         number / 32,
+        failed,
     );
     if 448 <= number {
-        print_outcome(number % 32);
+        print_outcome(number % 32, failed);
     }
 }
 
-pub fn sender_number(state: SenderState) -> usize {
+pub fn sender_number(state: SenderState) -> usize
+    ensures { λ r. ⌜ r ≡ senderNumber state ⌝ }
+{
     match state {
         SenderState::S { .. } => 0,
         SenderState::SH => 32,
@@ -71,7 +86,9 @@ pub fn sender_number(state: SenderState) -> usize {
     }
 }
 
-pub fn receiver_number(state: ReceiverState) -> usize {
+pub fn receiver_number(state: ReceiverState) -> usize
+    ensures { λ r. ⌜ r ≡ receiverNumber state ⌝ }
+{
     match state {
         ReceiverState::R => 160,
         ReceiverState::RH { whole: _ } => 192,
@@ -81,7 +98,9 @@ pub fn receiver_number(state: ReceiverState) -> usize {
     }
 }
 
-pub fn bin_sender_number(state: BinSenderState) -> usize {
+pub fn bin_sender_number(state: BinSenderState) -> usize
+    ensures { λ r. ⌜ r ≡ binSenderNumber state ⌝ }
+{
     match state {
         BinSenderState::Start => 256,
         BinSenderState::Wait => 288,
@@ -90,7 +109,9 @@ pub fn bin_sender_number(state: BinSenderState) -> usize {
     }
 }
 
-pub fn bin_receiver_number(state: BinReceiverState) -> usize {
+pub fn bin_receiver_number(state: BinReceiverState) -> usize
+    ensures { λ r. ⌜ r ≡ binReceiverNumber state ⌝ }
+{
     match state {
         BinReceiverState::Waiting => 352,
         BinReceiverState::Basic { .. } => 384,
@@ -100,52 +121,59 @@ pub fn bin_receiver_number(state: BinReceiverState) -> usize {
 }
 
 // Whether a state is an end, whatever the outcome.
-pub fn is_end(number: usize) -> bool {
+pub fn is_end(number: usize) -> bool
+    ensures { λ r. ⌜ r ≡ isEnd number ⌝ }
+{
     480 <= number
 }
 
 // An end's step from one state to another.
-pub fn moved(who: usize, before: usize, after: usize) {
+pub fn moved(who: usize, before: usize, after: usize, failed: &mut bool) {
     if before / 32 == after / 32 {
         return;
     }
     let words: &[u8] = b"    sender |    receiver | to |\n|";
-    put_word(words, who);
-    print_state(before);
-    put_word(words, 2);
-    print_state(after);
-    put_word(words, 3);
+    put_word(words, who, failed);
+    print_state(before, failed);
+    put_word(words, 2, failed);
+    print_state(after, failed);
+    put_word(words, 3, failed);
 }
 
 // A packet or a frame on its way, if it has any bytes: who sent it, the place of its word, and how many of its bytes pass.
-pub fn passing(from: usize, number: usize, n: usize, passed: usize) {
+pub fn passing(from: usize, number: usize, n: usize, passed: usize, failed: &mut bool) {
     if n == 0 {
         return;
     }
     let words: &[u8] = b"> |< | | bytes|, the link breaks after |\n|";
-    put_word(words, from);
-    print_kind(number);
-    put_number(words, 2, n);
-    put_word(words, 3);
+    put_word(words, from, failed);
+    print_kind(number, failed);
+    put_number(words, 2, n, failed);
+    put_word(words, 3, failed);
     if passed < n {
-        put_number(words, 4, passed);
+        put_number(words, 4, passed, failed);
     }
-    put_word(words, 5);
+    put_word(words, 5, failed);
 }
 
-fn print_kind(number: usize) {
+fn print_kind(number: usize, failed: &mut bool) {
     put_word(
         b"RR|RF|AF|AT|CA|RT|SI|RI|HD|DT|EF|ET|NR|RE|CN|TX|malformed HD|unreadable|unfinished|\
           line|malformed line|OK|OK with name|OK with kept count|malformed OK|NO|stop|display|other|data|",
         number,
+        failed,
     );
 }
 
-pub fn packet_number(bytes: &[u8], checked: bool) -> usize {
+pub fn packet_number(bytes: &[u8], checked: bool) -> usize
+    ensures { λ r. ⌜ r ≡ kindOf (contentOf [] (packetOf checked (now (bytes .entry)))) ⌝ }
+{
     kinds::kind_of(packet_reader::packet_of(bytes, checked))
 }
 
-fn line_number(frame: Frame) -> usize {
+fn line_number(frame: Frame) -> usize
+    ensures { λ r. ⌜ r ≡ lineNumber frame ⌝ }
+{
     match frame {
         Frame::Basic(_) => 19,
         Frame::Extended(_) => 19,
@@ -162,7 +190,9 @@ fn line_number(frame: Frame) -> usize {
 }
 
 // The number of a frame: 29 where it is of the file.
-pub fn frame_number(bytes: &[u8], is_data: bool) -> usize {
+pub fn frame_number(bytes: &[u8], is_data: bool) -> usize
+    ensures { λ r. ⌜ r ≡ frameNumber is_data (now (bytes .entry)) ⌝ }
+{
     if is_data {
         return 29;
     }
@@ -170,9 +200,11 @@ pub fn frame_number(bytes: &[u8], is_data: bool) -> usize {
 }
 
 // How many bytes a record's answer has.
-pub fn count_of(answer: calls::RecordAnswer) -> usize {
+pub fn count_of(answer: RecordAnswer) -> usize
+    ensures { λ r. ⌜ r ≡ recordCount answer ⌝ }
+{
     match answer {
-        calls::RecordAnswer::NoRecord => 0,
-        calls::RecordAnswer::Record(written) => calls::count(written),
+        RecordAnswer::NoRecord => 0,
+        RecordAnswer::Record(written) => calls::count(written),
     }
 }

@@ -135,7 +135,7 @@ module _ (w : World) (t : Settings) where
   bound h (k ∷ ks) f q =
       omega (arith, spends h (k .act) (k .reply) (k .lent) (k .handed) (f .0) (q .0), bound (calm-step w t k h (f .0) (q .0)) ks (f .1) (q .1))
 
-  -- ---- settled
+  -- ---- quiet-then
 
   -- both ends have ended: a leave of such a sender is refused, and a receiver sends nothing at any
   at-end : (c : Config) → senderEnded (c .snd .core .state) ≡ true → receiverEnded (c .rcv .core .state) ≡ true → Quiet w c
@@ -144,39 +144,39 @@ module _ (w : World) (t : Settings) where
 
   module _ (k : ℕ) (reply : List ℕ) (l : 259 ≤ length reply) (arr area : List ℕ) (acc : Bool) (tally : ℕ) (laid : List ℕ) where
     -- in these states, with these frames on the way, no call has anything to do only if the session is at its end
-    abbrev Settles : SenderState → ReceiverState → Option Saved → List (List ℕ) → List (List ℕ) → Type 0
-    Settles s r v lr ls =
+    abbrev IdleEnds : SenderState → ReceiverState → Option Saved → List (List ℕ) → List (List ℕ) → Type 0
+    IdleEnds s r v lr ls =
         let c = cfg w t s r v arr area lr ls acc tally laid in
         Now w t true s r v arr area lr ls acc tally laid → workIn w transmitS c reply ≡ 0 → workIn w (receiveS k) c reply ≡ 0
         → workIn w (receiveR k) c reply ≡ 0 → Quiet w c
 
     -- the sender sends a frame
     sends : {s : SenderState} {r : ReceiverState} {v : Option Saved} {lr ls : List (List ℕ)} → senderEnded s ≡ false
-        → 1 ≤ length (sentTo [] (senderTransmits (ourSender w t) (w .file) s .out) reply) → Settles s r v lr ls
+        → 1 ≤ length (sentTo [] (senderTransmits (ourSender w t) (w .file) s .out) reply) → IdleEnds s r v lr ls
     unfolding transmit
     sends {s} e f n x y z = absurd (omega (arith, rw (check-takes w t (holds n) transmitS reply e l, settings-are w t s) at x))
 
     -- the receiver takes one
     takes : {s : SenderState} {r : ReceiverState} {v : Option Saved} {f : List ℕ} {lr ls : List (List ℕ)} → receiverEnded r ≡ false
-        → Settles s r v (f ∷ lr) ls
+        → IdleEnds s r v (f ∷ lr) ls
     takes e n x y z = absurd (omega (arith, rw (check-takes w t (holds n) (receiveR k) reply e l) at z))
 
-    settles : {s : SenderState} {r : ReceiverState} {v : Option Saved} {lr ls : List (List ℕ)} → Good w s r v lr ls → Settles s r v lr ls
+    idle-ends : {s : SenderState} {r : ReceiverState} {v : Option Saved} {lr ls : List (List ℕ)} → Good w s r v lr ls → IdleEnds s r v lr ls
     unfolding senderTransmits
-    settles g0 = sends refl (rw (sent-one [] (lineFrame w (t .stamp)) reply (line-said w (t .stamp) (t .stamp-fits) .some-bytes)) (omega arith))
-    settles (g1 x) = takes refl
-    settles (g2 o q) = λ n x y z. absurd (omega (arith, rw (check-takes w t (holds n) (receiveS k) reply refl l) at y))
-    settles (g3 {p = p} h x) =
+    idle-ends g0 = sends refl (rw (sent-one [] (lineFrame w (t .stamp)) reply (line-said w (t .stamp) (t .stamp-fits) .some-bytes)) (omega arith))
+    idle-ends (g1 x) = takes refl
+    idle-ends (g2 o q) = λ n x y z. absurd (omega (arith, rw (check-takes w t (holds n) (receiveS k) reply refl l) at y))
+    idle-ends (g3 {p = p} h x) =
         sends refl (rw (sent-one [] _ reply (cuts (w .file) p (t .block) h (t .block-some) (t .block-most) .block .filled)) (omega arith))
-    settles (g4 (some-left h) sent) = absurd (omega arith)
-    settles (g4 (some-left h) (frame d c x)) = takes refl
-    settles (g4 (all-there e) f) = λ n x y z. at-end _ refl refl
+    idle-ends (g4 (some-left h) sent) = absurd (omega arith)
+    idle-ends (g4 (some-left h) (frame d c x)) = takes refl
+    idle-ends (g4 (all-there e) f) = λ n x y z. at-end _ refl refl
 
   comes : {c : Config} → Holds w t true c → ComesToEnd w c
   comes {c} (holds n) = record {
     most = toDo c;
     bounded = bound (holds n);
-    settled = λ k reply l x u y z. settles k reply l _ _ _ _ _ (only-good w t (n .inv)) n x y z;
+    quiet-then = λ k reply l x u y z. idle-ends k reply l _ _ _ _ _ (only-good w t (n .inv)) n x y z;
   }
 
 -- ENDING of a session

@@ -12,10 +12,10 @@ use Rattle.fields.specs.Buffer.{over, appended}
 use Rattle.numbers.specs.Reading.{radix, decimalDigit, hexDigit, valueFrom, readDecimal, readCrc, readHex, littleValue}
 use Rattle.numbers.specs.Writing.{decimal, digits, hex, capital, little}
 use Rattle.crc.specs.Crc.{reduced, remainder, byteStep, walkFrom}
-use Rattle.spans.specs.Span as span
+use Rattle.packets.specs.Span as span
 use Rattle.packets.specs.Packet as packet
 use Rattle.packets.specs.Content as content
-use Rattle.pending.specs.Pending as pending
+use Rattle.packet_stream.specs.Pending as pending
 use Rattle.records.specs.Record as record-read
 use Rattle.records.specs.Saved as saved
 use Rattle.lines.specs.Frame as frame

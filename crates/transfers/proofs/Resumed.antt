@@ -99,14 +99,14 @@ session2 = byYapp (settingsY false) calls2
 
 -- by #BIN#: the line, the third OK; then a frame of 257 bytes that nobody sent (19); `S` alone, for which a call is lent another area first
 -- (40), 256 bytes, `\r` alone, eight bytes
-abbrev announcing : List Act
-announcing = transmitS ∷ receiveR 300 ∷ receiveS 300 ∷ []
+abbrev toTheLine : List Act
+toTheLine = transmitS ∷ receiveR 300 ∷ receiveS 300 ∷ []
 
 abbrev sending : List Call
 sending = long ∷ made transmitS ∷ other ∷ calling (receiveR 300 ∷ moving 3 [])
 
 abbrev pub calls3 : List Call
-calls3 = calling announcing ++ sending
+calls3 = calling toTheLine ++ sending
 
 abbrev pub session3 : Session
 session3 = byBin settingsB calls3
@@ -170,7 +170,7 @@ stands s r kept n = record {
 abbrev accepted : bin.Config
 accepted = stands (Send 0) (Takes 39340) 0 256
 
-accepted3 : bin.runs w (calling announcing) (bin.begins w settingsB fallen) ≡ accepted
+accepted3 : bin.runs w (calling toTheLine) (bin.begins w settingsB fallen) ≡ accepted
 unfolding opened
 accepted3 = refl
 
@@ -184,7 +184,7 @@ runs-append (k ∷ ks) ls c = runs-append ks ls (bin.step w k c)
 
 pub ends3 : bin.runs w calls3 (bin.begins w settingsB fallen) ≡ stands (Sent Success) (Received Success) 266 266
 ends3 =
-    runs-append (calling announcing) sending (bin.begins w settingsB fallen)
+    runs-append (calling toTheLine) sending (bin.begins w settingsB fallen)
     ∙ ap (bin.runs w sending) accepted3 ∙ moved3
 
 pub leaves3 : leavesBy w session3 fallen ≡ whole
@@ -261,7 +261,7 @@ fair-sending =
 
 fair3 : FairIn w session3 fallen
 fair3 =
-    fairlyB announcing sending (bin.begins w settingsB fallen) (subst (bin.Fairly w sending) (sym accepted3) fair-sending)
+    fairlyB toTheLine sending (bin.begins w settingsB fallen) (subst (bin.Fairly w sending) (sym accepted3) fair-sending)
 
 pub fair : FairAll w (session1 ∷ session2 ∷ session3 ∷ []) (first w)
 fair = (

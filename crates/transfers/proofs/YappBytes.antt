@@ -12,13 +12,13 @@ use lib.Dec.{ltb}
 use borrow.Author.Tests.{ltb-true}
 use Rattle.records.specs.Saved.{Saved}
 use Rattle.packets.specs.Content.{Content, unfinished}
-use Rattle.reader.specs.declared.Reader.{Reader}
-use Rattle.reader.specs.declared.Received.{Received}
-use Rattle.reader.specs.Reader.{checking, receive as reads}
+use Rattle.packet_stream.specs.declared.Reader.{Reader}
+use Rattle.packet_stream.specs.declared.Received.{Received}
+use Rattle.packet_stream.specs.Reader.{checking, receive as reads}
 use Rattle.yapp.specs.declared.SenderState.{SenderState}
 use Rattle.yapp.specs.declared.ReceiverState.{ReceiverState}
 use Rattle.yapp.specs.Steps.{SenderMove, ReceiverMove, goes, writes, senderTakes, senderTransmits, senderTimesOut, senderCancels, receiverTimesOut, receiverCancels}
-use Rattle.yapp_core.specs.Core.{heard}
+use Rattle.yapp_sender.specs.Sender.{heard}
 use Rattle.transfers.specs.MachinesYapp.{receiverTakes}
 use Rattle.transfers.specs.World.{World}
 use Rattle.transfers.specs.Yapp.{dataIn, Settings}

@@ -13,10 +13,10 @@ use borrow.Author.Tests.{ltb-true, ltb-false, eq-eqb, le-leb}
 use Rattle.records.specs.Saved.{Saved}
 use Rattle.packets.specs.Content.{Content}
 use Rattle.packets.proofs.RoundTrip.{reply-fits}
-use Rattle.reader.specs.declared.Reader.{Reader}
-use Rattle.reader.specs.declared.Received.{Received}
-use Rattle.reader.specs.Reader.{receive as reads}
-use Rattle.pending.proofs.Feeding.{feed-within, feed-some}
+use Rattle.packet_stream.specs.declared.Reader.{Reader}
+use Rattle.packet_stream.specs.declared.Received.{Received}
+use Rattle.packet_stream.specs.Reader.{receive as reads}
+use Rattle.packet_stream.proofs.Feeding.{feed-within, feed-some}
 use Rattle.calls.specs.declared.Status.{Status}
 use Rattle.calls.specs.declared.Status.the-variants.{Taken, Over, LongFrame, SmallReply, WrongLength}
 use Rattle.calls.specs.Checks.{checkOf, isTaken}
@@ -25,7 +25,8 @@ use Rattle.yapp.specs.declared.SenderState.the-variants.{S, SH, SD, SE, ST, CW,
 use Rattle.yapp.specs.declared.ReceiverState.{ReceiverState}
 use Rattle.yapp.specs.declared.ReceiverState.the-variants.{R, RH, RD, CW as RCW, Ended as REnded}
 use Rattle.yapp.specs.Steps.{SenderMove, ReceiverMove, writes, senderTakes, senderTransmits, senderEnded, receiverEnded}
-use Rattle.yapp_core.specs.Core.{nowhere, heard}
+use Rattle.fields.specs.Lists.{nowhere}
+use Rattle.yapp_sender.specs.Sender.{heard}
 use Rattle.yapp_sender.specs.declared.Sender.{Sender}
 use Rattle.yapp_sender.specs.Sender.{transmit, receive, replied, statusOf, unlessRefused}
 use Rattle.yapp_receiver.specs.Receiver.{statusOf as statusR}
@@ -312,10 +313,10 @@ module _ (w : World) (t : Settings) where
     no-more reply l z false e (nothing o n) r = quiet-S (c .snd) (statusOf (c .snd) (w .file) r) r _ (rw (h .sender-set) o)
     no-more reply l z false e (something o n) r = absurd (omega (arith, o, rw (at-S reply e l, h .sender-set) at z))
 
-    settles : (n : ℕ) (reply : List ℕ) → 1 ≤ n → 259 ≤ length reply → workIn w transmitS c reply ≡ 0 → workIn w transmitR c reply ≡ 0
+    idle-ends : (n : ℕ) (reply : List ℕ) → 1 ≤ n → 259 ≤ length reply → workIn w transmitS c reply ≡ 0 → workIn w transmitR c reply ≡ 0
         → workIn w (receiveS n) c reply ≡ 0 → workIn w (receiveR n) c reply ≡ 0 → Quiet w c
     unfolding transmitR′
-    settles n reply m l a b d e = record {
+    idle-ends n reply m l a b d e = record {
       to-sender = to-sender n reply m l d (senderEnded (c .snd .core .state)) refl (c .toS) refl;
       to-receiver = to-receiver n reply m l e (receiverEnded (c .rcv .core .state)) refl (c .toR) refl;
       no-more-S = no-more reply l a (senderEnded (c .snd .core .state)) refl (leaves (h .inv));
@@ -335,4 +336,4 @@ pub yapp-ending : (w : World) (t : Settings) (ks : List Call) (l : Left) → Bet
 yapp-ending w t ks l b f q =
     let c = runs w ks (begins w t l) in
     let h = calm-run w t ks (begins w t l) q f (begun w t l b) in
-    record { most = far w t c; bounded = λ ls. bounded w t ls c h; settled = settles w t c h }
+    record { most = far w t c; bounded = λ ls. bounded w t ls c h; quiet-then = idle-ends w t c h }

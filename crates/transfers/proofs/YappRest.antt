@@ -12,7 +12,8 @@ use lib.Dec.{ltb, leb, eqb}
 use Rattle.fields.specs.Pick.{pick}
 use Rattle.records.specs.Saved.{Saved}
 use Rattle.packets.specs.Content.{Content, af, at, ca, si, ef, unfinished}
-use Rattle.packets.specs.Kind.{CA, CN, Parts, partsOf}
+use Rattle.packets.specs.Kind.{CA, CN, kindOf}
+use Rattle.packets.proofs.KindLaws.{resume-cases}
 use Rattle.calls.specs.declared.Outcome.{Outcome}
 use Rattle.calls.specs.declared.Outcome.the-variants.{Success, Unexpected, Short, NotOurs, TimedOut, Stopped}
 use Rattle.yapp.specs.declared.SenderState.{SenderState}
@@ -20,13 +21,13 @@ use Rattle.yapp.specs.declared.SenderState.the-variants.{S, SH, SD, SE, ST, CW,
 use Rattle.yapp.specs.declared.ReceiverState.{ReceiverState}
 use Rattle.yapp.specs.declared.ReceiverState.the-variants.{R, RH, RD, CW as RCW, Ended as REnded}
 use Rattle.yapp.specs.Rows
-use Rattle.yapp.specs.Rows.{Action, nothing, abort, refused, cancelled, success, leaves, answers, sendHeader, start, startChecked, resume, sendTrailer, ready, judge, second, store}
-use Rattle.yapp.specs.Steps.{SenderSettings, SenderMove, ReceiverSettings, ReceiverMove, sends, aborts, goes, fails, accepts, senderDoes, senderTakes, senderTransmits, senderTimesOut, senderCancels, receiverDoes, receiverTimesOut, receiverCancels}
+use Rattle.yapp.specs.Rows.{Action, nothing, abort, refused, cancelled, success, endCW, answers, sendHeader, start, startChecked, resume, sendTrailer, ready, judge, second, store}
+use Rattle.yapp.specs.Steps.{SenderSettings, SenderMove, ReceiverSettings, ReceiverMove, sends, aborts, goes, fails, accepts, senderResumes, senderDoes, senderTakes, senderTransmits, senderTimesOut, senderCancels, receiverDoes, receiverTimesOut, receiverCancels}
 use Rattle.transfers.specs.MachinesYapp.{receiverTakes}
 use Rattle.transfers.specs.World.{World, laidBy}
 use Rattle.transfers.specs.Yapp.{dataIn, Settings}
 use Rattle.transfers.proofs.Stored.{Stored, Stores, mine, fits-saved, lays-none, unmoved, same, fallen, stored-more}
-use Rattle.transfers.proofs.YappPhases.{machine, join, fall, fallBy, isRD, Sees, now, called, again, Block, Dts, sent, block, Tail, silent, eof, trailer, stop, answer, RestS, waitsS, endedS, RestR, waitsR, endedR, senderSet, receiverSet, held, Reply, plainly, checking, resuming, Good, g0, g1, g2, g3, g4, g5, g6, g7, g8, g9, g10, Flight, resting, early, early-header, waiting, waiting-header, taking, whole, Inv, good, fades, faded}
+use Rattle.transfers.proofs.YappPhases.{machine, join, fall, fallBy, isRD, Sees, now, called, again, Block, Dts, sent, block, Tail, silent, eof, trailer, stop, answer, RestS, waitsS, endedS, RestR, waitsR, endedR, senderSet, receiverSet, held, Reply, plainly, checking, resuming, Good, g0, g1, g2, g3, g4, g5, g6, g7, g8, g9, g10, Flight, resting, early, early-header, waiting, waiting-header, receiving, whole, Inv, good, fades, faded}
 use Rattle.transfers.proofs.YappGood.{dts-append, calling-append, calling-none, Accepts, accepted, Keeps, keeps, reply-within, take-header, take-data}
 use Rattle.transfers.proofs.YappWire.{Word, All, all-nil, all-cons, Brief, quiet, one, word-rr, word-rf, word-af, word-at, word-ca, word-rt, word-si, word-ef, word-et, word-cn, word-re, word-hd}
 
@@ -124,17 +125,17 @@ module _ (w : World) (t : Settings) where
     unfolding machine fallBy
     ends st h = at-rest endedR (one word-at) refl (record { mode = refl; awaits = refl }) h
 
-    rest-cw : (o : Outcome) (b : Bool) (v : Option Saved) (x y : Bool) (p : Parts) → Stored w v area tally
-        → Rested (RCW o) b (receiverDoes (receiverSet w t) (now (RCW o) b v) area (pick x leaves (pick y answers nothing)) p)
+    rest-cw : (o : Outcome) (b : Bool) (v : Option Saved) (x y : Bool) (c : Content) → Stored w v area tally
+        → Rested (RCW o) b (receiverDoes (receiverSet w t) (now (RCW o) b v) area (pick x endCW (pick y answers nothing)) c)
     unfolding machine fallBy
-    rest-cw o b v true y p h = at-rest endedR quiet refl (record { mode = refl; awaits = refl }) h
-    rest-cw o b v false true p h = at-rest waitsR (one word-ca) refl (record { mode = refl; awaits = refl }) h
-    rest-cw o b v false false p h = at-rest waitsR quiet refl (record { mode = refl; awaits = refl }) h
+    rest-cw o b v true y c h = at-rest endedR quiet refl (record { mode = refl; awaits = refl }) h
+    rest-cw o b v false true c h = at-rest waitsR (one word-ca) refl (record { mode = refl; awaits = refl }) h
+    rest-cw o b v false false c h = at-rest waitsR quiet refl (record { mode = refl; awaits = refl }) h
 
     pub rest-take : {st : ReceiverState} (b : Bool) (v : Option Saved) (c : Content) → RestR st → Stored w v area tally
         → Rested st b (receiverTakes (receiverSet w t) (now st b v) area c)
     unfolding machine
-    rest-take b v c (waitsR {o = o}) h = rest-cw o b v (eqb (partsOf c .kind) CA) (eqb (partsOf c .kind) CN) (partsOf c) h
+    rest-take b v c (waitsR {o = o}) h = rest-cw o b v (eqb (kindOf c) CA) (eqb (kindOf c) CN) c h
     rest-take b v c endedR h = at-rest endedR quiet refl (record { mode = refl; awaits = refl }) h
 
     pub rest-times : (st : ReceiverState) (b : Bool) (v : Option Saved) → Stored w v area tally → Rested st b (receiverTimesOut (now st b v) area st)
@@ -172,7 +173,7 @@ module _ (w : World) (t : Settings) where
     unfolding machine
     kept-on {d = d} keeps h e q r = record {
       mode = inl refl;
-      flight = taking q r;
+      flight = receiving q r;
       stored = stored-more w d h (e .fits) (e .is);
       brief = quiet;
       seen = record { mode = refl; awaits = refl };
@@ -191,7 +192,7 @@ module _ (w : World) (t : Settings) where
         let le : tally - fallBy p ≤ tally = omega arith in
         record {
           mode = inr (tail-words q);
-          flight = taking q sent;
+          flight = receiving q sent;
           stored = unmoved w (fallen w (mine w (t .stamp) k) (tally - fallBy p) le h
               (record { name = refl; size = refl; kept = reply-within w t r; stamp = fits-saved (t .stamp) (t .stamp-fits) }) e);
           brief = one (reply-word r);
@@ -217,11 +218,11 @@ module _ (w : World) (t : Settings) where
     still (waiting q (again c)) h = moves quiet refl (record { mode = refl; awaits = refl }) (waiting q c) h
     still {b = b} (waiting-header {v = v} q called) h = taken (take-header w t area tally b v h) h q
     still (waiting-header q (again c)) h = moves quiet refl (record { mode = refl; awaits = refl }) (waiting-header q c) h
-    still {b = b} {l = l} (taking {k = k} (eof q) sent) h = take-eof b k l q h
-    still (taking (trailer q) sent) h = still-rests (fell RD Unexpected h)
-    still (taking (stop q) sent) h = still-rests (cancels RD _ h)
-    still (taking (answer q) sent) h = still-rests (fell RD Unexpected h)
-    still {b = b} (taking {k = k} q (block d e r)) h = kept-on (take-data w t area b k d (e .fits)) h e q r
+    still {b = b} {l = l} (receiving {k = k} (eof q) sent) h = take-eof b k l q h
+    still (receiving (trailer q) sent) h = still-rests (fell RD Unexpected h)
+    still (receiving (stop q) sent) h = still-rests (cancels RD _ h)
+    still (receiving (answer q) sent) h = still-rests (fell RD Unexpected h)
+    still {b = b} (receiving {k = k} q (block d e r)) h = kept-on (take-data w t area b k d (e .fits)) h e q r
     still (whole (eof q)) h = still-rests (fell (RH true) Unexpected h)
     still (whole (trailer q)) h = still-rests (ends (RH true) h)
     still (whole (stop q)) h = still-rests (cancels (RH true) _ h)
@@ -235,7 +236,7 @@ module _ (w : World) (t : Settings) where
   flight-append {u = u} q (early-header x c) = early-header (tail-append q x) (calling-append u c)
   flight-append {u = u} q (waiting x c) = waiting (tail-append q x) (calling-append u c)
   flight-append {u = u} q (waiting-header x c) = waiting-header (tail-append q x) (calling-append u c)
-  flight-append {u = u} q (taking x r) = taking (tail-append q x) (dts-append u r)
+  flight-append {u = u} q (receiving x r) = receiving (tail-append q x) (dts-append u r)
   flight-append q (whole x) = whole (tail-append q x)
 
   pub flight-of : {st : SenderState} {a : Bool} {rs : ReceiverState} {b : Bool} {v : Option Saved} {lr ls : List Content} → Good w t st a rs b v lr ls
@@ -244,43 +245,46 @@ module _ (w : World) (t : Settings) where
   flight-of (g1 c) = early silent (calling-none c)
   flight-of (g2 c) = waiting silent c
   flight-of (g3 c) = waiting-header silent c
-  flight-of (g4 q) = taking silent sent
-  flight-of (g5 h r) = taking silent r
-  flight-of (g6 r) = taking (eof silent) r
+  flight-of (g4 q) = receiving silent sent
+  flight-of (g5 h r) = receiving silent r
+  flight-of (g6 r) = receiving (eof silent) r
   flight-of g7 = whole silent
   flight-of g8 = whole (trailer silent)
   flight-of g9 = resting endedR
   flight-of g10 = resting endedR
 
   -- what a sender sends but for its data is a packet of the session or none
-  brief-does : (st : SenderState) (k : Bool) (x : Action) (p : Parts) → Brief (senderDoes (senderSet w t) st k x p .out)
+  brief-does : (st : SenderState) (k : Bool) (x : Action) (c : Content) → Brief (senderDoes (senderSet w t) st k x c .out)
   unfolding machine
-  brief-does st k nothing p = quiet
-  brief-does st k abort p = one word-cn
-  brief-does st k refused p = quiet
-  brief-does st k cancelled p = one word-ca
-  brief-does st k success p = quiet
-  brief-does st k leaves p = quiet
-  brief-does st k answers p = one word-ca
-  brief-does st k sendHeader p = one (word-hd w t)
-  brief-does st k start p = quiet
-  brief-does st k startChecked p = quiet
-  brief-does st k resume p = go (leb (p .number) (length (w .file)))
+  brief-does st k nothing c = quiet
+  brief-does st k abort c = one word-cn
+  brief-does st k refused c = quiet
+  brief-does st k cancelled c = one word-ca
+  brief-does st k success c = quiet
+  brief-does st k endCW c = quiet
+  brief-does st k answers c = one word-ca
+  brief-does st k sendHeader c = one (word-hd w t)
+  brief-does st k start c = quiet
+  brief-does st k startChecked c = quiet
+  brief-does st k resume c =
+      resume-cases (λ (a : SenderMove). Brief (a .out)) c (senderResumes (senderSet w t) k) (sends st k [])
+      (λ position checked. go position checked (leb position (length (w .file))))
+      quiet
     where
-      go : (x : Bool) → Brief (pick x (sends (SD (p .number)) (p .flag) []) (aborts NotOurs k) .out)
-      go true = quiet
-      go false = one word-cn
-  brief-does st k sendTrailer p = one word-et
-  brief-does st k ready p = quiet
-  brief-does st k Rows.trailer p = quiet
-  brief-does st k judge p = quiet
-  brief-does st k second p = quiet
-  brief-does st k store p = quiet
-  brief-does st k Rows.eof p = quiet
+      go : (position : ℕ) (checked x : Bool) → Brief (pick x (sends (SD position) checked []) (aborts NotOurs k) .out)
+      go position checked true = quiet
+      go position checked false = one word-cn
+  brief-does st k sendTrailer c = one word-et
+  brief-does st k ready c = quiet
+  brief-does st k Rows.trailer c = quiet
+  brief-does st k judge c = quiet
+  brief-does st k second c = quiet
+  brief-does st k store c = quiet
+  brief-does st k Rows.eof c = quiet
 
   pub brief-takes : (st : SenderState) (k : Bool) (c : Content) → Brief (senderTakes (senderSet w t) st k c .out)
   unfolding senderTakes
-  brief-takes st k c = brief-does st k _ (partsOf c)
+  brief-takes st k c = brief-does st k _ c
 
   pub brief-times : (st : SenderState) (k : Bool) → Brief (senderTimesOut st k .out)
   unfolding machine
@@ -315,18 +319,18 @@ module _ (w : World) (t : Settings) where
     pub rest : RestS (a .state)
     pub flight : Flight w t rs v (join lr (a .out))
 
-  fading-cw : (o : Outcome) (k : Bool) {rs : ReceiverState} {v : Option Saved} {lr : List Content} (x y : Bool) (p : Parts) → Flight w t rs v lr
-      → Fading (senderDoes (senderSet w t) (CW o) k (pick x leaves (pick y answers nothing)) p) rs v lr
+  fading-cw : (o : Outcome) (k : Bool) {rs : ReceiverState} {v : Option Saved} {lr : List Content} (x y : Bool) (c : Content) → Flight w t rs v lr
+      → Fading (senderDoes (senderSet w t) (CW o) k (pick x endCW (pick y answers nothing)) c) rs v lr
   unfolding machine
-  fading-cw o k true y p f = record { rest = endedS; flight = f }
-  fading-cw o k false true p f = record { rest = waitsS; flight = flight-append (answer silent) f }
-  fading-cw o k false false p f = record { rest = waitsS; flight = f }
+  fading-cw o k true y c f = record { rest = endedS; flight = f }
+  fading-cw o k false true c f = record { rest = waitsS; flight = flight-append (answer silent) f }
+  fading-cw o k false false c f = record { rest = waitsS; flight = f }
 
   -- a sender at rest receives, transmits, runs out of time
   pub fading-takes : {st : SenderState} (k : Bool) {rs : ReceiverState} {v : Option Saved} {lr : List Content} (c : Content) → RestS st → Flight w t rs v lr
       → Fading (senderTakes (senderSet w t) st k c) rs v lr
   unfolding machine
-  fading-takes k c (waitsS {o = o}) f = fading-cw o k (eqb (partsOf c .kind) CA) (eqb (partsOf c .kind) CN) (partsOf c) f
+  fading-takes k c (waitsS {o = o}) f = fading-cw o k (eqb (kindOf c) CA) (eqb (kindOf c) CN) c f
   fading-takes k c endedS f = record { rest = endedS; flight = f }
 
   pub fading-leaves : {st : SenderState} (k : Bool) {rs : ReceiverState} {v : Option Saved} {lr : List Content} → RestS st → Flight w t rs v lr
@@ -372,9 +376,9 @@ module _ (w : World) (t : Settings) where
   good-times (g1 {n = n} c) = timeout-S n (ltb n 3) (g1 (calling-none (calling-append (si ∷ []) c))) (early silent (calling-none c))
   good-times (g2 {n = n} c) = timeout-S n (ltb n 3) (g2 (calling-none (calling-append (si ∷ []) c))) (waiting silent c)
   good-times (g3 c) = fades waitsS (flight-append (stop silent) (waiting-header silent c))
-  good-times (g4 q) = fades waitsS (flight-append (stop silent) (taking silent sent))
+  good-times (g4 q) = fades waitsS (flight-append (stop silent) (receiving silent sent))
   good-times (g5 h r) = good (g5 h r)
-  good-times (g6 r) = fades waitsS (flight-append (stop silent) (taking (eof silent) r))
+  good-times (g6 r) = fades waitsS (flight-append (stop silent) (receiving (eof silent) r))
   good-times g7 = fades waitsS (whole (stop silent))
   good-times g8 = fades endedS (whole (trailer silent))
   good-times g9 = faded endedR

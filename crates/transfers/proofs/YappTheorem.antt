@@ -18,13 +18,13 @@ use Rattle.fields.specs.declared.Place.{Place}
 use Rattle.fields.proofs.Lists.{name-length}
 use Rattle.records.specs.Saved.{Saved, recordBytes}
 use Rattle.packets.specs.Content.{Content, contentOf}
-use Rattle.packets.specs.Kind.{partsOf, look}
-use Rattle.reader.specs.declared.Reader.{Reader}
-use Rattle.reader.specs.declared.Received.{Received}
-use Rattle.reader.specs.Reader.{fresh as freshReader, receive as reads}
-use Rattle.spans.specs.Span.{spanAt}
-use Rattle.pending.specs.Pending.{feed}
-use Rattle.pending.proofs.Framing.{Waits}
+use Rattle.packets.specs.Kind.{kindOf, look}
+use Rattle.packet_stream.specs.declared.Reader.{Reader}
+use Rattle.packet_stream.specs.declared.Received.{Received}
+use Rattle.packet_stream.specs.Reader.{fresh as freshReader, receive as reads}
+use Rattle.packets.specs.Span.{spanAt}
+use Rattle.packet_stream.specs.Pending.{feed}
+use Rattle.packet_stream.proofs.Framing.{Waits}
 use Rattle.calls.specs.declared.Outcome.the-variants.{Success}
 use Rattle.calls.specs.declared.Status.{Status}
 use Rattle.calls.specs.declared.Status.the-variants.{Taken, Over, LongFrame, SmallReply, WrongLength}
@@ -38,7 +38,8 @@ use Rattle.yapp.specs.declared.ReceiverState.the-variants.{R, Ended as REnded}
 use Rattle.yapp_sender.specs.declared.Sender.{Sender}
 use Rattle.yapp_receiver.specs.declared.Receiver.{Receiver}
 use Rattle.yapp.specs.Steps.{SenderSettings, ReceiverSettings, SenderMove, ReceiverMove, writes, senderTransmits, senderTimesOut, senderCancels, receiverTimesOut, receiverCancels, senderEnded, receiverEnded}
-use Rattle.yapp_core.specs.Core.{nowhere, heard, shownIn}
+use Rattle.fields.specs.Lists.{nowhere}
+use Rattle.yapp_sender.specs.Sender.{heard, shownIn}
 use Rattle.yapp_sender.specs.Sender.{SenderAfter, settingsOf, replied, arrived, refusedCall, statusOf, unlessRefused, begin, begunSender, transmit, receive, timeout, cancel}
 use Rattle.calls.specs.Saving.{formBy}
 use Rattle.yapp_receiver.specs.Receiver.{ReceiverAfter, settingsOf as settingsR, nowOf, replied as repliedR, refusedCall as refusedR, statusOf as statusR, unlessRefused as unlessR, receiverWith, fresh, withSaved, resumeBy, resume}
@@ -49,7 +50,7 @@ use Rattle.transfers.proofs.Calls.{sent-is, lent-back}
 use Rattle.transfers.proofs.Stored.{Ours, Stored, Between, lays-none, ours-bytes, ours-back, name-back, saved-back, name-room, name-short}
 use Rattle.transfers.proofs.YappPhases.{machine, fall, isRD, called, again, sent, block, senderSet, receiverSet, Good, g0, g1, g2, g3, g4, g5, g6, g7, g8, g9, g10}
 use Rattle.transfers.proofs.YappGood.{nextBlock, next-is, blockMove}
-use Rattle.transfers.proofs.YappWire.{Formed, word-si, word-ef, block-formed, writes-cons, some-bytes, Brief, fall-none, fall-is, sent-parts, one-packet, Encodes, idle, encodes-quiet}
+use Rattle.transfers.proofs.YappWire.{Formed, word-si, word-ef, block-formed, writes-cons, some-bytes, Brief, fall-none, fall-is, sent-first, one-packet, Encodes, idle, encodes-quiet}
 use Rattle.transfers.proofs.YappBytes.{none-yet, WInv, in-phase, Moved, Came, wire-leaves, wire-times, wire-stops, wire-heard, wire-timesR, wire-stopsR, wire-came}
 
 -- the record that a receiver holds
@@ -68,14 +69,14 @@ sent-whole k {out} reply b = rw (sent-is (writes k out) reply) (one-packet k b)
 
 -- with an empty chunk nothing comes, and where nothing is sent the observer sees nothing
 came-none : (o : Watch) → cameBy o [] ≡ 0
-unfolding feed contentOf partsOf
+unfolding feed contentOf kindOf
 came-none o = none-yet (o .awaits)
 
 none-came : (m : Receiver) → dataIn (isRD (m .core .state)) (heard (reads (m .reader) [])) ≡ 0
 none-came m = came-none (record { reader = m .reader; awaits = isRD (m .core .state) })
 
 seen-none : (o : Watch) → seen o [] (packetSent []) ≡ o
-unfolding feed spanAt contentOf partsOf look
+unfolding feed spanAt contentOf kindOf look
 seen-none o = refl
 
 module _ (w : World) (t : Settings) where
@@ -147,7 +148,7 @@ module _ (w : World) (t : Settings) where
     moved-R chunk taken a reply i =
         let l = name-short w (a .saved) (i .stored .stored .ours) in
         let b = saved-back (a .saved) (c .rcv .name) (h .array) l in
-        rw (sent-is (writes (a .checked) (a .out)) reply, fall-is (a .checked) (i .brief), sent-parts (a .checked) (i .brief), h .watched)
+        rw (sent-is (writes (a .checked) (a .out)) reply, fall-is (a .checked) (i .brief), sent-first (a .checked) (i .brief), h .watched)
         (record {
           sender-set = h .sender-set;
           receiver-set = h .receiver-set;

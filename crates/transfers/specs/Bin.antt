@@ -215,7 +215,7 @@ module _ (w : World) where
   pub record ComesToEnd (c : Config) : Type 0 where
     pub most : ℕ
     pub bounded : (ks : List Call) → Fairly ks c → Calmly ks c → work ks c ≤ most
-    pub settled : (n : ℕ) (reply : List ℕ) → 259 ≤ length reply → workIn transmitS c reply ≡ 0 → workIn transmitR c reply ≡ 0
+    pub quiet-then : (n : ℕ) (reply : List ℕ) → 259 ≤ length reply → workIn transmitS c reply ≡ 0 → workIn transmitR c reply ≡ 0
         → workIn (receiveS n) c reply ≡ 0 → workIn (receiveR n) c reply ≡ 0 → Quiet c
 
   -- the status that a call answers with

@@ -1,7 +1,7 @@
 -- A session by YAPP: two fresh ends, the bytes on the way between them, and calls.
 use Prim.Native.Nat.{ℕ, _+_, _-_, _≤_}
 use mathlib.Core.Path.{_≡_}
-use mathlib.Core.Bool.{Bool, true, false, _&&_}
+use mathlib.Core.Bool.{Bool, true, false}
 use mathlib.Core.List.{List, [], _∷_, _++_}
 use mathlib.Core.Option.{Option, none, some}
 use mathlib.Core.Logic.{_⊎_}
@@ -11,11 +11,12 @@ use Rattle.fields.specs.Pick.{pick}
 use Rattle.fields.specs.declared.Stamp.{Stamp}
 use Rattle.packets.specs.Packet.{packetOf}
 use Rattle.packets.specs.Content.{Content, contentOf, stampFits}
-use Rattle.packets.specs.Kind.{Parts, RF, RT, DT, RE, Unfinished, partsOf, look}
-use Rattle.spans.specs.declared.Span.the-variants.{Whole}
-use Rattle.spans.specs.Span.{span}
-use Rattle.reader.specs.declared.Reader.{Reader}
-use Rattle.reader.specs.Reader.{fresh as freshReader, checking, receive as reads}
+use Rattle.packets.specs.Kind.{RF, RT, RE, Unfinished, kindOf, look}
+use Rattle.packets.specs.Data.{onBlock, onResume}
+use Rattle.packets.specs.declared.spans.Span.the-variants.{Whole}
+use Rattle.packets.specs.Span.{span}
+use Rattle.packet_stream.specs.declared.Reader.{Reader}
+use Rattle.packet_stream.specs.Reader.{fresh as freshReader, checking, receive as reads}
 use Rattle.calls.specs.declared.Outcome.the-variants.{Success}
 use Rattle.calls.specs.declared.Status.{Status}
 use Rattle.calls.specs.declared.Status.the-variants.{Taken}
@@ -25,7 +26,7 @@ use Rattle.yapp.specs.declared.SenderState.the-variants.{Ended as SEnded}
 use Rattle.yapp_receiver.specs.declared.Receiver.{Receiver}
 use Rattle.yapp.specs.declared.ReceiverState.the-variants.{Ended as REnded}
 use Rattle.yapp.specs.Steps.{senderEnded, receiverEnded}
-use Rattle.yapp_core.specs.Core.{heard}
+use Rattle.yapp_sender.specs.Sender.{heard}
 use Rattle.yapp_sender.specs.Sender.{SenderAfter, begin, transmit as transmits, receive as receives, timeout as times, cancel as stops}
 use Rattle.yapp_receiver.specs.Receiver.{ReceiverAfter, fresh, resume, recordBy}
 use Rattle.transfers.specs.MachinesYapp.{transmit as transmitsR, receive as receivesR, timeout as timesR, cancel as stopsR}
@@ -81,15 +82,15 @@ begins w t l = record {
 
 -- how many bytes of the file a packet brings: a DT its data, where they are awaited
 abbrev pub dataIn : Bool → Content → ℕ
-dataIn awaits p = pick (awaits && eqb (partsOf p .kind) DT) (length (partsOf p .bytes)) 0
+dataIn awaits c = pick awaits (onBlock c (λ d sound. length d) 0) 0
 
 -- how many a chunk brings, which may complete a packet
 abbrev pub cameBy : Watch → List ℕ → ℕ
 cameBy o chunk = dataIn (o .awaits) (heard (reads (o .reader) chunk))
 
--- the packet that is sent; `Unfinished` where nothing is
-abbrev pub packetSent : List ℕ → Parts
-packetSent s = partsOf (contentOf s (packetOf false s))
+-- the packet that is sent; `unfinished` where nothing is
+abbrev pub packetSent : List ℕ → Content
+packetSent s = contentOf s (packetOf false s)
 
 -- nothing is sent, or one whole packet
 abbrev pub OnePacket : List ℕ → Type 0
@@ -97,21 +98,21 @@ OnePacket s = (s ≡ []) ⊎ (span false s ≡ Whole (length s))
 
 -- the tally falls by 256, not under 0, at an RE
 abbrev pub fallOf : List ℕ → ℕ
-fallOf s = pick (eqb (packetSent s .kind) RE) 256 0
+fallOf s = pick (eqb (kindOf (packetSent s)) RE) 256 0
 
 -- data are awaited once RF, RT or RE is sent, until another packet is sent: the state RD
-abbrev pub awaitsBy : Parts → Bool → Bool
-awaitsBy p before = look (p .kind) ((RF, true) ∷ (RT, true) ∷ (RE, true) ∷ (Unfinished, before) ∷ []) false
+abbrev pub awaitsBy : Content → Bool → Bool
+awaitsBy c before = look (kindOf c) ((RF, true) ∷ (RT, true) ∷ (RE, true) ∷ (Unfinished, before) ∷ []) false
 
 -- "after RT, or RE with `C`, every DT has one more byte"
-abbrev pub checksBy : Parts → Bool → Bool
-checksBy p before = look (p .kind) ((RF, false) ∷ (RT, true) ∷ (RE, p .flag) ∷ []) before
+abbrev pub checksBy : Content → Bool → Bool
+checksBy c before = look (kindOf c) ((RF, false) ∷ (RT, true) ∷ (RE, onResume c (λ position checked. checked) before) ∷ []) before
 
--- the chunk comes, and p is sent
-abbrev pub seen : Watch → List ℕ → Parts → Watch
-seen o chunk p = record {
-  reader = checking (checksBy p (o .reader .checked)) (reads (o .reader) chunk .reader);
-  awaits = awaitsBy p (o .awaits);
+-- the chunk comes, and c is sent
+abbrev pub seen : Watch → List ℕ → Content → Watch
+seen o chunk c = record {
+  reader = checking (checksBy c (o .reader .checked)) (reads (o .reader) chunk .reader);
+  awaits = awaitsBy c (o .awaits);
 }
 
 -- ---- the calls
@@ -224,7 +225,7 @@ module _ (w : World) where
   pub record ComesToEnd (c : Config) : Type 0 where
     pub most : ℕ
     pub bounded : (ks : List Call) → Fairly ks c → Calmly ks c → work ks c ≤ most
-    pub settled : (n : ℕ) (reply : List ℕ) → 1 ≤ n → 259 ≤ length reply → workIn transmitS c reply ≡ 0 → workIn transmitR c reply ≡ 0
+    pub quiet-then : (n : ℕ) (reply : List ℕ) → 1 ≤ n → 259 ≤ length reply → workIn transmitS c reply ≡ 0 → workIn transmitR c reply ≡ 0
         → workIn (receiveS n) c reply ≡ 0 → workIn (receiveR n) c reply ≡ 0 → Quiet c
 
   -- the status that a call answers with

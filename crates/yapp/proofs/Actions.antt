@@ -1,17 +1,17 @@
 -- Actions that have the same number are the same.
 -- Assumes nothing.
 use mathlib.Core.Path.{_≡_, refl, ap, sym, _∙_}
-use mathlib.Core.List.{List, [], _∷_}
+use mathlib.Core.List.{[], _∷_}
 use Prim.Native.Nat.{ℕ}
 use Rattle.packets.specs.Kind.{look}
-use Rattle.yapp.specs.Rows.{Action, nothing, abort, refused, cancelled, success, leaves, answers, sendHeader, start, startChecked, resume, sendTrailer, ready, trailer, judge, second, store, eof}
+use Rattle.yapp.specs.Rows.{Action, nothing, abort, refused, cancelled, success, endCW, answers, sendHeader, start, startChecked, resume, sendTrailer, ready, trailer, judge, second, store, eof}
 use Rattle.yapp.specs.Table.{actionNumber}
 
 -- the action of a number
 actionOf : ℕ → Action
 actionOf n =
     look n
-    ((0, nothing) ∷ (1, abort) ∷ (2, refused) ∷ (3, cancelled) ∷ (4, success) ∷ (5, leaves) ∷ (6, answers) ∷ (7, sendHeader) ∷ (8, start)
+    ((0, nothing) ∷ (1, abort) ∷ (2, refused) ∷ (3, cancelled) ∷ (4, success) ∷ (5, endCW) ∷ (6, answers) ∷ (7, sendHeader) ∷ (8, start)
     ∷ (9, startChecked) ∷ (10, resume) ∷ (11, sendTrailer) ∷ (12, ready) ∷ (13, trailer) ∷ (14, judge) ∷ (15, second) ∷ (16, store) ∷ [])
     eof
 
@@ -22,7 +22,7 @@ back abort = refl
 back refused = refl
 back cancelled = refl
 back success = refl
-back leaves = refl
+back endCW = refl
 back answers = refl
 back sendHeader = refl
 back start = refl

@@ -3,7 +3,7 @@
 -- Assumes nothing.
 use mathlib.Core.Path.{_≡_, refl, ap, sym, _∙_}
 use mathlib.Core.Bool.{true, false}
-use mathlib.Core.List.{List, [], _∷_}
+use mathlib.Core.List.{List, [], _∷_, _++_}
 use mathlib.Core.Logic.{⊎-elim}
 use Prim.Native.Nat.{ℕ, zero, suc, _+_, _*_, _≤_, _<_}
 use native.Mathlib.Nat.{add-zero, zero-add, add-suc, suc-add, le-of-suc-le-suc, not-suc-le-zero}
@@ -18,8 +18,31 @@ use Rattle.yapp.specs.declared.SenderState.{SenderState}
 use Rattle.yapp.specs.declared.SenderState.the-variants.{S, SH, SD, SE, ST, CW, Ended}
 use Rattle.yapp.specs.declared.ReceiverState.{ReceiverState}
 use Rattle.yapp.specs.declared.ReceiverState.the-variants.{R, RH, RD, CW as RCW, Ended as REnded}
-use Rattle.yapp.specs.Rows.{Action, rowS, rowSH, rowSD, rowSE, rowST, rowCW, rowR, rowRH, rowSecond, rowRD, senderRow, receiverRow}
-use Rattle.yapp.specs.Table.{kinds, columnOf, actionNumber, senderNumber, receiverNumber, numbersFrom, table, sendTable, receiveTable}
+use Rattle.yapp.specs.Rows.{Action, nothing, rowS, rowSH, rowSD, rowSE, rowST, rowCW, rowR, rowRH, rowSecond, rowRD, senderRow, receiverRow}
+use Rattle.yapp.specs.Table.{actionNumber}
+use Rattle.yapp.specs.Cells.{kinds, columnOf, senderNumber, receiverNumber}
+
+-- what a row has for the n kinds from k on
+unfoldable pub numbersFrom : (ℕ → Action) → ℕ → ℕ → List ℕ
+numbersFrom f k zero = []
+numbersFrom f k (suc n) = actionNumber (f k) ∷ numbersFrom f (suc k) n
+
+-- rows one after the other, each over all kinds
+unfoldable pub table : List (ℕ → Action) → List ℕ
+table [] = []
+table (f ∷ l) = numbersFrom f 0 kinds ++ table l
+
+-- an end that has ended does nothing
+abbrev rowEnded : ℕ → Action
+rowEnded k = nothing
+
+-- S, SH, SD, SE, ST, CW, ended
+unfoldable pub sendTable : List ℕ
+sendTable = table (rowS ∷ rowSH ∷ rowSD ∷ rowSE ∷ rowST ∷ rowCW ∷ rowEnded ∷ [])
+
+-- R, RH without a file, RH with a file, RD, CW, ended
+unfoldable pub receiveTable : List ℕ
+receiveTable = table (rowR ∷ rowRH ∷ rowSecond ∷ rowRD ∷ rowCW ∷ rowEnded ∷ [])
 
 -- what stands at k in a row
 numbers-at : (f : ℕ → Action) (i n k : ℕ) → k < n → getD (numbersFrom f i n) k 0 ≡ actionNumber (f (i + k))

@@ -1,3 +1,2 @@
-pub mod Entries
+mod Entries
 pub mod Actions
-pub mod KindLaws

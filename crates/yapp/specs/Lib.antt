@@ -1,3 +1,4 @@
 pub mod Rows
 pub mod Table
+pub mod Cells
 pub mod Steps

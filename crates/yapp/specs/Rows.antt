@@ -1,8 +1,8 @@
 -- The tables of source document 000 as document 01 has them: state by packet gives an action.
 use Prim.Native.Nat.{ℕ}
-use mathlib.Core.Bool.{Bool, true, false}
+use mathlib.Core.Bool.{true, false}
 use mathlib.Core.List.{List, [], _∷_}
-use Rattle.packets.specs.Kind.{RR, RF, AF, AT, CA, RT, SI, RI, HD, DT, EF, ET, NR, RE, CN, TX, BadHD, Unreadable, Unfinished, look}
+use Rattle.packets.specs.Kind.{RR, RF, AF, CA, RT, SI, RI, HD, DT, EF, ET, NR, RE, CN, TX, BadHD, Unfinished, look}
 use Rattle.yapp.specs.declared.SenderState.{SenderState}
 use Rattle.yapp.specs.declared.SenderState.the-variants.{S, SH, SD, SE, ST, CW, Ended}
 use Rattle.yapp.specs.declared.ReceiverState.{ReceiverState}
@@ -10,7 +10,7 @@ use Rattle.yapp.specs.declared.ReceiverState.the-variants.{R, RH, RD, CW
 
 -- what an end does with a packet. `abort`: send CN without reason, enter CW
 pub data Action : Type 0 where
-  nothing abort refused cancelled success leaves answers : Action
+  nothing abort refused cancelled success endCW answers : Action
   sendHeader start startChecked resume sendTrailer : Action
   ready trailer judge second store eof : Action
 
@@ -40,7 +40,7 @@ rowST k = look k ((Unfinished, nothing) ∷ (CN, cancelled) ∷ []) success
 
 -- CW: CA ends; CN sends CA and stays; all else is dropped
 unfoldable pub rowCW : ℕ → Action
-rowCW k = look k ((CA, leaves) ∷ (CN, answers) ∷ []) nothing
+rowCW k = look k ((CA, endCW) ∷ (CN, answers) ∷ []) nothing
 
 unfoldable pub senderRow : SenderState → ℕ → Action
 senderRow (S begun timeouts) k = rowS k

@@ -7,11 +7,11 @@ use lib.ListN.{length, take, drop}
 use lib.Dec.{ltb, leb, eqb}
 use Rattle.fields.specs.Pick.{pick}
 use Rattle.fields.specs.Lists.{same}
-use Rattle.fields.specs.Buffer.{Form, formless, bytes, appended}
+use Rattle.fields.specs.Buffer.{appended}
 use Rattle.fields.specs.declared.Stamp.{Stamp}
-use Rattle.fields.specs.declared.Stamp.the-variants.{Present, Absent}
 use Rattle.packets.specs.Content.{Content, rr, rf, af, at, ca, rt, si, ef, et, nr, cn, hd, dt, re, formOf}
-use Rattle.packets.specs.Kind.{Parts, HD, partsOf}
+use Rattle.packets.specs.Kind.{kindOf}
+use Rattle.packets.specs.Data.{onHeader, onBlock, onResume}
 use Rattle.records.specs.Saved.{Saved}
 use Rattle.calls.specs.declared.Outcome.{Outcome}
 use Rattle.calls.specs.declared.Outcome.the-variants.{Success, Unexpected, Malformed, NoRoom, HaveFile, Differs, CheckFailed, PastSize, Short, Refused, Cancelled, NotOurs, TimedOut, SecondFile, Stopped}
@@ -23,7 +23,7 @@ use Rattle.yapp.specs.declared.SenderState.{SenderState}
 use Rattle.yapp.specs.declared.SenderState.the-variants.{S, SH, SD, SE, ST, CW, Ended}
 use Rattle.yapp.specs.declared.ReceiverState.{ReceiverState}
 use Rattle.yapp.specs.declared.ReceiverState.the-variants.{R, RH, RD, CW as RCW, Ended as REnded}
-use Rattle.yapp.specs.Rows.{Action, nothing, abort, refused, cancelled, success, leaves, answers, sendHeader, start, startChecked, resume, sendTrailer, ready, trailer, judge, second, store, eof, senderRow, receiverRow}
+use Rattle.yapp.specs.Rows.{Action, nothing, abort, refused, cancelled, success, endCW, answers, sendHeader, start, startChecked, resume, sendTrailer, ready, trailer, judge, second, store, eof, senderRow, receiverRow}
 
 -- ---- what is sent, as bytes
 
@@ -60,39 +60,39 @@ senderResumes s k position checked =
     pick (s .resumes) (pick (leb position (s .size)) (sends (SD position) checked []) (aborts NotOurs k)) (aborts Unexpected k)
 
 -- CW is left with the number that it was entered with
-abbrev pub leftBy : SenderState → SenderState
-leftBy (S begun timeouts) = S begun timeouts
-leftBy SH = SH
-leftBy (SD n) = SD n
-leftBy SE = SE
-leftBy ST = ST
-leftBy (CW o) = Ended o
-leftBy (Ended o) = Ended o
+abbrev pub senderAfterCW : SenderState → SenderState
+senderAfterCW (S begun timeouts) = S begun timeouts
+senderAfterCW SH = SH
+senderAfterCW (SD n) = SD n
+senderAfterCW SE = SE
+senderAfterCW ST = ST
+senderAfterCW (CW o) = Ended o
+senderAfterCW (Ended o) = Ended o
 
 -- the actions of a sender; those of a receiver, which no row of a sender has, do nothing
-unfoldable pub senderDoes : SenderSettings → SenderState → Bool → Action → Parts → SenderMove
-senderDoes s st k nothing p = sends st k []
-senderDoes s st k abort p = aborts Unexpected k
-senderDoes s st k refused p = sends (Ended Refused) k []
-senderDoes s st k cancelled p = sends (Ended Cancelled) k (ca ∷ [])
-senderDoes s st k success p = sends (Ended Success) k []
-senderDoes s st k leaves p = sends (leftBy st) k []
-senderDoes s st k answers p = sends st k (ca ∷ [])
-senderDoes s st k sendHeader p = sends SH k (hd (s .name) (s .size) (s .stamp) ∷ [])
-senderDoes s st k start p = sends (SD 0) false []
-senderDoes s st k startChecked p = sends (SD 0) true []
-senderDoes s st k resume p = senderResumes s k (p .number) (p .flag)
-senderDoes s st k sendTrailer p = sends ST k (et ∷ [])
-senderDoes s st k ready p = sends st k []
-senderDoes s st k trailer p = sends st k []
-senderDoes s st k judge p = sends st k []
-senderDoes s st k second p = sends st k []
-senderDoes s st k store p = sends st k []
-senderDoes s st k eof p = sends st k []
+unfoldable pub senderDoes : SenderSettings → SenderState → Bool → Action → Content → SenderMove
+senderDoes s st k nothing c = sends st k []
+senderDoes s st k abort c = aborts Unexpected k
+senderDoes s st k refused c = sends (Ended Refused) k []
+senderDoes s st k cancelled c = sends (Ended Cancelled) k (ca ∷ [])
+senderDoes s st k success c = sends (Ended Success) k []
+senderDoes s st k endCW c = sends (senderAfterCW st) k []
+senderDoes s st k answers c = sends st k (ca ∷ [])
+senderDoes s st k sendHeader c = sends SH k (hd (s .name) (s .size) (s .stamp) ∷ [])
+senderDoes s st k start c = sends (SD 0) false []
+senderDoes s st k startChecked c = sends (SD 0) true []
+senderDoes s st k resume c = onResume c (senderResumes s k) (sends st k [])
+senderDoes s st k sendTrailer c = sends ST k (et ∷ [])
+senderDoes s st k ready c = sends st k []
+senderDoes s st k trailer c = sends st k []
+senderDoes s st k judge c = sends st k []
+senderDoes s st k second c = sends st k []
+senderDoes s st k store c = sends st k []
+senderDoes s st k eof c = sends st k []
 
 -- a packet has come
 unfoldable pub senderTakes : SenderSettings → SenderState → Bool → Content → SenderMove
-senderTakes s st k c = senderDoes s st k (senderRow st (partsOf c .kind)) (partsOf c)
+senderTakes s st k c = senderDoes s st k (senderRow st (kindOf c)) c
 
 -- SD: each leave sends the next block, the shorter rest last; with nothing left it sends EF and enters SE
 unfoldable pub sendsBlock : SenderSettings → List ℕ → ℕ → Bool → SenderMove
@@ -214,45 +214,41 @@ stores r a d sound =
     (fails r a PastSize))
     (fails r a CheckFailed)
 
--- a malformed header aborts (7)
-unfoldable pub judgesParts : ReceiverSettings → ReceiverNow → List ℕ → Parts → ReceiverMove
-judgesParts t r a p = pick (eqb (p .kind) HD) (judges t r a (p .bytes) (p .number) (p .stamp)) (fails r a Malformed)
-
-abbrev pub leftCW : ReceiverState → ReceiverState
-leftCW R = R
-leftCW (RH whole) = RH whole
-leftCW RD = RD
-leftCW (RCW o) = REnded o
-leftCW (REnded o) = REnded o
+abbrev pub receiverAfterCW : ReceiverState → ReceiverState
+receiverAfterCW R = R
+receiverAfterCW (RH whole) = RH whole
+receiverAfterCW RD = RD
+receiverAfterCW (RCW o) = REnded o
+receiverAfterCW (REnded o) = REnded o
 
 -- EF at the announced size gives AF and RH, earlier it aborts (13)
 unfoldable pub endsFile : ReceiverNow → List ℕ → ReceiverMove
 endsFile r a = pick (eqb (keptOf (r .saved)) (sizeOf (r .saved))) (goes r a (RH true) (af ∷ [])) (fails r a Short)
 
 -- the actions of a receiver; those of a sender, which no row of a receiver has, do nothing
-unfoldable pub receiverDoes : ReceiverSettings → ReceiverNow → List ℕ → Action → Parts → ReceiverMove
-receiverDoes t r a nothing p = goes r a (r .state) []
-receiverDoes t r a abort p = fails r a Unexpected
-receiverDoes t r a refused p = goes r a (REnded Refused) []
-receiverDoes t r a cancelled p = goes r a (REnded Cancelled) (ca ∷ [])
-receiverDoes t r a leaves p = goes r a (leftCW (r .state)) []
-receiverDoes t r a answers p = goes r a (r .state) (ca ∷ [])
-receiverDoes t r a ready p = goes r a (RH false) (rr ∷ [])
-receiverDoes t r a trailer p = goes r a (REnded Success) (at ∷ [])
-receiverDoes t r a judge p = judgesParts t r a p
-receiverDoes t r a second p = refuses r a SecondFile oneText
-receiverDoes t r a store p = stores r a (p .bytes) (p .flag)
-receiverDoes t r a eof p = endsFile r a
-receiverDoes t r a success p = goes r a (r .state) []
-receiverDoes t r a sendHeader p = goes r a (r .state) []
-receiverDoes t r a start p = goes r a (r .state) []
-receiverDoes t r a startChecked p = goes r a (r .state) []
-receiverDoes t r a resume p = goes r a (r .state) []
-receiverDoes t r a sendTrailer p = goes r a (r .state) []
+unfoldable pub receiverDoes : ReceiverSettings → ReceiverNow → List ℕ → Action → Content → ReceiverMove
+receiverDoes t r a nothing c = goes r a (r .state) []
+receiverDoes t r a abort c = fails r a Unexpected
+receiverDoes t r a refused c = goes r a (REnded Refused) []
+receiverDoes t r a cancelled c = goes r a (REnded Cancelled) (ca ∷ [])
+receiverDoes t r a endCW c = goes r a (receiverAfterCW (r .state)) []
+receiverDoes t r a answers c = goes r a (r .state) (ca ∷ [])
+receiverDoes t r a ready c = goes r a (RH false) (rr ∷ [])
+receiverDoes t r a trailer c = goes r a (REnded Success) (at ∷ [])
+receiverDoes t r a judge c = onHeader c (judges t r a) (fails r a Malformed)
+receiverDoes t r a second c = refuses r a SecondFile oneText
+receiverDoes t r a store c = onBlock c (stores r a) (goes r a (r .state) [])
+receiverDoes t r a eof c = endsFile r a
+receiverDoes t r a success c = goes r a (r .state) []
+receiverDoes t r a sendHeader c = goes r a (r .state) []
+receiverDoes t r a start c = goes r a (r .state) []
+receiverDoes t r a startChecked c = goes r a (r .state) []
+receiverDoes t r a resume c = goes r a (r .state) []
+receiverDoes t r a sendTrailer c = goes r a (r .state) []
 
 -- a packet has come
 unfoldable pub receiverTakes : ReceiverSettings → ReceiverNow → List ℕ → Content → ReceiverMove
-receiverTakes t r a c = receiverDoes t r a (receiverRow (r .state) (partsOf c .kind)) (partsOf c)
+receiverTakes t r a c = receiverDoes t r a (receiverRow (r .state) (kindOf c)) c
 
 -- timer: aborts (17); in CW it ends
 unfoldable pub receiverTimesOut : ReceiverNow → List ℕ → ReceiverState → ReceiverMove

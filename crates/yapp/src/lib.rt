@@ -7,7 +7,7 @@ pub enum SenderState {
     // Whether SI was sent, and how many timeouts came since.
     S { begun: bool, timeouts: u8 },
     SH,
-    // How many bytes of the file were sent.
+    // The index in the file of the next byte to send.
     SD { at: u32 },
     SE,
     ST,

@@ -6,7 +6,8 @@ use crate::SenderState;
 ghost use mathlib.Core.Path.{_≡_};
 ghost use Prim.Native.Nat.{_<_, _≤_};
 ghost use Rattle.yapp.specs.Rows.{senderRow, receiverRow};
-ghost use Rattle.yapp.specs.Table.{kinds, columnOf, actionNumber, senderNumber, receiverNumber};
+ghost use Rattle.yapp.specs.Table.{actionNumber};
+ghost use Rattle.yapp.specs.Cells.{kinds, columnOf, senderNumber, receiverNumber};
 
 // How many kinds of packets there are, the unfinished packet the last.
 const KINDS: usize = 19;

@@ -1,68 +1,89 @@
--- What the receiver's calls and beginnings are by what was decided below. Assumes nothing.
-use mathlib.Core.Path.{_≡_, refl, sym}
+-- What the calls leave, from what a step leaves; the beginnings. Assumes nothing.
+use mathlib.Core.Path.{_≡_, refl, ap, sym, _∙_}
 use mathlib.Core.Bool.{Bool, true, false}
 use mathlib.Core.List.{List, []}
 use Prim.Native.Nat.{ℕ}
-use lib.ListN.{replicate}
-use Rattle.fields.specs.Pick.{pick}
+use lib.ListN.{length, replicate}
 use Rattle.fields.specs.Buffer.{over, appended}
 use Rattle.packets.specs.Content.{contentOf}
-use Rattle.reader.specs.declared.Reader.{Reader}
-use Rattle.reader.specs.Reader.{receive as reads}
-use Rattle.records.specs.declared.RecordRead.{RecordRead}
-use Rattle.records.specs.declared.RecordRead.the-variants.{Good, Unreadable}
-use Rattle.records.specs.Record.{recordOf}
+use Rattle.packet_stream.specs.declared.Reader.{Reader}
+use Rattle.packet_stream.specs.declared.Received.{Received}
+use Rattle.packet_stream.specs.Reader.{checking, receive as reads}
 use Rattle.calls.specs.declared.Status.{Status}
-use Rattle.calls.specs.Checks.{unless}
-use Rattle.calls.specs.Saving.{isWithin}
-use Rattle.calls.proofs.Laws.{unless-ap}
-use Rattle.yapp.specs.Steps.{ReceiverMove, receiverTakes, receiverTimesOut, receiverCancels}
-use Rattle.yapp_checks.specs.declared.Begun.{Begun}
-use Rattle.yapp_checks.specs.Begun.{begunWith, begunBy}
-use Rattle.yapp_calls.specs.declared.Event.the-variants.{Timeout, Cancel}
-use Rattle.yapp_calls.specs.Calls.{leftBy, refusedLeft, receives, settles}
+use Rattle.calls.specs.declared.Status.the-variants.{Taken}
+use Rattle.calls.specs.Checks.{isTaken}
+use Rattle.calls.proofs.Laws.{unless-taken, unless-refused}
+use Rattle.yapp.specs.Steps.{writes, ReceiverMove, receiverTakes}
+use Rattle.yapp_receiver.specs.declared.step.Step.{Step}
 use Rattle.yapp_receiver.specs.declared.Receiver.{Receiver}
-use Rattle.yapp_receiver.specs.Receiver.{unlessRefused, statusOf, replied, settingsOf, nowOf, withSaved, resumeBy, resume, receive, timeout, cancel}
-use Rattle.yapp_receiver.specs.Answers.{begunAs, afterBy}
+use Rattle.yapp_receiver.specs.Step.{Reached, reached, reachedBy}
+use Rattle.yapp_receiver.specs.Receiver.{ReceiverAfter, settingsBy, nowBy, refusedCall, replied, arrived, statusOf, unlessRefused, receive}
 
+module _ (m : Receiver) (r : Reader) (taken : ℕ) (reply : List ℕ) where
+  abbrev pub after : Reached → ReceiverAfter
+  after x = record {
+    answer = record {
+      receiver = record {
+        reader = checking (x .checked) r;
+        name = x .name;
+        core = record {
+          state = x .state;
+          room = m .core .room;
+          resumes = m .core .resumes;
+          checks = m .core .checks;
+          keeping = x .keeping;
+        };
+      };
+      status = Taken;
+      taken = taken;
+      sent = length (writes (x .checked) (x .out));
+      stored = x .stored;
+    };
+    area = x .area;
+    reply = over 0 (writes (x .checked) (x .out)) reply;
+  }
+
+  pub after-is : (v : ReceiverMove) (s : Step) (a : List ℕ) → reached (m .name) v ≡ reachedBy (r .pending) (m .name) s a
+      → replied m r taken v reply ≡ after (reachedBy (r .pending) (m .name) s a)
+  after-is v s a h = ap after h
+
+-- whether a call is taken
 module _ (m : Receiver) (area reply : List ℕ) where
-  answered-is : (r : Reader) (taken : ℕ) (a : ReceiverMove) (s : Status)
-      → unlessRefused s m area reply (replied m r taken a reply)
-      ≡ afterBy (unless s (refusedLeft (m .core) (m .reader) (m .name) area reply) (leftBy (m .core) r taken a (m .name) reply))
-  answered-is r taken a s =
-      sym (unless-ap afterBy (refusedLeft (m .core) (m .reader) (m .name) area reply) (leftBy (m .core) r taken a (m .name) reply) s)
+  pub receive-taken : (chunk : List ℕ) (k : Bool) (g : Received) (s : Step) (a : List ℕ) (x : ReceiverAfter)
+      → isTaken (statusOf m area reply) ≡ true
+      → k ≡ m .reader .checked
+      → g ≡ reads (m .reader) chunk
+      → reached (m .name) (receiverTakes (settingsBy (m .core)) (nowBy (m .core) k (m .name)) area (contentOf (g .reader .pending) (g .packet)))
+      ≡ reachedBy (g .reader .pending) (m .name) s a
+      → ((v : ReceiverMove) → reached (m .name) v ≡ reachedBy (g .reader .pending) (m .name) s a → replied m (g .reader) (g .taken) v reply ≡ x)
+      → receive m chunk area reply ≡ x
+  unfolding receive
+  receive-taken chunk k g s a x h e f q z =
+      unless-taken (λ (y : Status). refusedCall m y area reply) (arrived m (reads (m .reader) chunk) area reply) (statusOf m area reply) h
+      ∙ ap (λ (y : Received). arrived m y area reply) (sym f)
+      ∙ ap
+      (λ (y : Bool). replied m (g .reader) (g .taken) (receiverTakes (settingsBy (m .core)) (nowBy (m .core) y (m .name)) area (contentOf (g .reader .pending) (g .packet))) reply)
+      (sym e)
+      ∙ z (receiverTakes (settingsBy (m .core)) (nowBy (m .core) k (m .name)) area (contentOf (g .reader .pending) (g .packet))) q
 
-  pub receive-is : (chunk : List ℕ)
-      → receive m chunk area reply ≡ afterBy (receives (m .core) (m .reader) (m .name) chunk area reply)
-  unfolding receive receives
-  receive-is chunk =
-      let g = reads (m .reader) chunk in
-      answered-is (g .reader) (g .taken) (receiverTakes (settingsOf m) (nowOf m) area (contentOf (g .reader .pending) (g .packet))) (statusOf m area reply)
+  pub receive-refused : (chunk : List ℕ) → isTaken (statusOf m area reply) ≡ false
+      → receive m chunk area reply ≡ refusedCall m (statusOf m area reply) area reply
+  unfolding receive
+  receive-refused chunk h =
+      unless-refused (λ (y : Status). refusedCall m y area reply) (arrived m (reads (m .reader) chunk) area reply) (statusOf m area reply) h
 
-  pub timeout-is : timeout m area reply ≡ afterBy (settles Timeout (m .core) (m .reader) (m .name) area reply)
-  unfolding timeout settles
-  timeout-is = answered-is (m .reader) 0 (receiverTimesOut (nowOf m) area (m .core .state)) (statusOf m area reply)
+  -- an event, with which no bytes come
+  pub event-taken : (v : ReceiverMove) → isTaken (statusOf m area reply) ≡ true
+      → unlessRefused (statusOf m area reply) m area reply (replied m (m .reader) 0 v reply) ≡ replied m (m .reader) 0 v reply
+  event-taken v h = unless-taken (λ (y : Status). refusedCall m y area reply) (replied m (m .reader) 0 v reply) (statusOf m area reply) h
 
-  pub cancel-is : cancel m area reply ≡ afterBy (settles Cancel (m .core) (m .reader) (m .name) area reply)
-  unfolding cancel settles
-  cancel-is = answered-is (m .reader) 0 (receiverCancels (nowOf m) area (m .core .state)) (statusOf m area reply)
+  pub event-refused : (v : ReceiverMove) → isTaken (statusOf m area reply) ≡ false
+      → unlessRefused (statusOf m area reply) m area reply (replied m (m .reader) 0 v reply) ≡ refusedCall m (statusOf m area reply) area reply
+  event-refused v h =
+      unless-refused (λ (y : Status). refusedCall m y area reply) (replied m (m .reader) 0 v reply) (statusOf m area reply) h
 
 -- ---- the beginnings
 
 pub no-name : appended 0 [] (replicate 64 0) ≡ replicate 64 0
 unfolding appended over
 no-name = refl
-
-picked : (t : Bool) (x y : Begun) → pick t (begunAs x) (begunAs y) ≡ begunAs (pick t x y)
-picked true x y = refl
-picked false x y = refl
-
-module _ (b : List ℕ) (room : ℕ) (resumes checks : Bool) where
-  by-is : (x : RecordRead) → resumeBy room resumes checks b x ≡ begunAs (begunBy b room resumes checks x)
-  unfolding withSaved begunWith
-  by-is (Good r) = rw no-name (picked (isWithin (r .kept) (r .size) room) _ _)
-  by-is Unreadable = rw no-name
-
-  pub resume-is : resume b room resumes checks ≡ begunAs (begunBy b room resumes checks (recordOf b))
-  unfolding resume
-  resume-is = by-is (recordOf b)

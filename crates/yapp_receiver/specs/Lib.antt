@@ -1,2 +1,3 @@
 pub mod Receiver
-pub mod Answers
+pub mod Step
+pub mod Arrivals

@@ -1,33 +1,31 @@
 -- The receiver: its beginnings, and what each call answers and leaves. (Document 01, "Steps of YAPP", "The saved record", "Numbers that
 -- refuse or end".)
 use Prim.Native.Nat.{ℕ}
-use mathlib.Core.Bool.{Bool, true, false, _&&_}
-use mathlib.Core.List.{List, []}
+use mathlib.Core.Bool.{Bool, false}
+use mathlib.Core.List.{List}
 use mathlib.Core.Option.{Option, none, some}
 use lib.ListN.{length, replicate}
-use lib.Dec.{leb}
 use Rattle.fields.specs.Pick.{pick}
 use Rattle.fields.specs.Buffer.{Form, over, appended}
-use Rattle.packets.specs.Content.{Content, contentOf}
-use Rattle.reader.specs.declared.Reader.{Reader}
-use Rattle.reader.specs.declared.Received.{Received}
-use Rattle.reader.specs.Reader.{fresh as freshReader, checking, receive as reads}
+use Rattle.packets.specs.Content.{contentOf}
+use Rattle.packet_stream.specs.declared.Reader.{Reader}
+use Rattle.packet_stream.specs.declared.Received.{Received}
+use Rattle.packet_stream.specs.Reader.{fresh as freshReader, checking, receive as reads}
 use Rattle.records.specs.declared.RecordRead.{RecordRead}
 use Rattle.records.specs.declared.RecordRead.the-variants.{Good, Unreadable}
 use Rattle.records.specs.Record.{recordOf}
 use Rattle.records.specs.Saved.{Saved, savedOf}
-use Rattle.calls.specs.declared.Keeping.the-variants.{Nothing}
-use Rattle.calls.specs.declared.Outcome.{Outcome}
 use Rattle.calls.specs.declared.Outcome.the-variants.{RecordUnreadable, RecordOver}
 use Rattle.calls.specs.declared.Status.{Status}
 use Rattle.calls.specs.declared.Status.the-variants.{Taken}
 use Rattle.calls.specs.Checks.{checkOf, unless}
-use Rattle.calls.specs.Saving.{savedBy, keepingOf, nameOf, formBy}
+use Rattle.calls.specs.Saving.{savedBy, keepingOf, nameOf, isWithin, formBy}
 use Rattle.yapp.specs.declared.ReceiverState.{ReceiverState}
 use Rattle.yapp.specs.declared.ReceiverState.the-variants.{R, Ended}
+use Rattle.yapp.specs.Steps.{writes, ReceiverSettings, ReceiverNow, ReceiverMove, receiverTakes, receiverTimesOut, receiverCancels, receiverEnded}
+use Rattle.yapp_receiver.specs.declared.step.ReceiverCore.{ReceiverCore}
 use Rattle.yapp_receiver.specs.declared.Receiver.{Receiver}
 use Rattle.yapp_receiver.specs.declared.ReceiverAnswer.{ReceiverAnswer}
-use Rattle.yapp.specs.Steps.{writes, ReceiverSettings, ReceiverNow, ReceiverMove, goes, receiverTakes, receiverTimesOut, receiverCancels, receiverEnded}
 
 -- ---- the beginnings
 
@@ -46,7 +44,7 @@ fresh room resumes checks = receiverWith R room resumes checks none
 -- kept over size, or size over area (2)
 unfoldable pub withSaved : ℕ → Bool → Bool → Saved → Receiver
 withSaved room resumes checks v =
-    pick (leb (v .kept) (v .size) && leb (v .size) room) (receiverWith R room resumes checks (some v))
+    pick (isWithin (v .kept) (v .size) room) (receiverWith R room resumes checks (some v))
     (receiverWith (Ended RecordOver) room resumes checks none)
 
 abbrev pub resumeBy : ℕ → Bool → Bool → List ℕ → RecordRead → Receiver
@@ -65,11 +63,19 @@ pub record ReceiverAfter : Type 0 where
   pub area : List ℕ
   pub reply : List ℕ
 
+-- its settings
+abbrev pub settingsBy : ReceiverCore → ReceiverSettings
+settingsBy c = record { room = c .room; resumes = c .resumes; checks = c .checks }
+
 abbrev pub settingsOf : Receiver → ReceiverSettings
-settingsOf m = record { room = m .core .room; resumes = m .core .resumes; checks = m .core .checks }
+settingsOf m = settingsBy (m .core)
+
+-- what else it is: its state, whether it is in YappC, and its record, whose name stands at the front of an array
+abbrev pub nowBy : ReceiverCore → Bool → List ℕ → ReceiverNow
+nowBy c checked name = record { state = c .state; checked = checked; saved = savedBy (c .keeping) name }
 
 abbrev pub nowOf : Receiver → ReceiverNow
-nowOf m = record { state = m .core .state; checked = m .reader .checked; saved = savedBy (m .core .keeping) (m .name) }
+nowOf m = nowBy (m .core) (m .reader .checked) (m .name)
 
 -- a refused call changes nothing anywhere
 abbrev pub refusedCall : Receiver → Status → List ℕ → List ℕ → ReceiverAfter

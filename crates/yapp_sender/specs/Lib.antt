@@ -1,2 +1,4 @@
 pub mod Sender
-pub mod Acts
+pub mod Step
+pub mod Events
+pub mod Output

@@ -1,37 +1,59 @@
 -- The sender: its beginning, and what each call answers and leaves. (Document 01, "Steps of YAPP", "Numbers that refuse or end".)
 use Prim.Native.Nat.{ℕ}
-use mathlib.Core.Bool.{Bool, false}
-use mathlib.Core.List.{List, []}
-use lib.ListN.{length, replicate}
+use mathlib.Core.Bool.{Bool, true, false, _&&_}
+use mathlib.Core.List.{List}
+use lib.ListN.{length, take, replicate}
+use lib.Dec.{leb, eqb}
+use Rattle.fields.specs.Pick.{pick}
+use Rattle.fields.specs.Lists.{nowhere}
+use Rattle.fields.specs.Name.{isName}
 use Rattle.fields.specs.Buffer.{over, appended}
 use Rattle.fields.specs.declared.Place.{Place}
 use Rattle.fields.specs.declared.Stamp.{Stamp}
-use Rattle.reader.specs.declared.Reader.{Reader}
-use Rattle.reader.specs.declared.Received.{Received}
-use Rattle.reader.specs.Reader.{fresh, checking, receive as reads}
+use Rattle.fields.specs.declared.Stamp.the-variants.{Absent}
+use Rattle.packets.specs.Span.{sizeOf}
+use Rattle.packets.specs.Packet.{placeOf}
+use Rattle.packets.specs.Kind.{TX, kindOf}
+use Rattle.packets.specs.Content.{Content, contentOf}
+use Rattle.packet_stream.specs.declared.Reader.{Reader}
+use Rattle.packet_stream.specs.declared.Received.{Received}
+use Rattle.packet_stream.specs.Reader.{fresh, checking, receive as reads}
 use Rattle.calls.specs.declared.Outcome.{Outcome}
+use Rattle.calls.specs.declared.Outcome.the-variants.{NameOutside, LengthOutside, BlockOutside}
 use Rattle.calls.specs.declared.Status.{Status}
 use Rattle.calls.specs.declared.Status.the-variants.{Taken}
 use Rattle.calls.specs.Checks.{checkOf, unless}
+use Rattle.yapp.specs.declared.SenderState.{SenderState}
+use Rattle.yapp.specs.declared.SenderState.the-variants.{S, SH, SD, SE, ST, CW, Ended}
 use Rattle.yapp.specs.Steps.{writes, SenderSettings, SenderMove, senderTakes, senderTransmits, senderTimesOut, senderCancels, senderEnded}
-use Rattle.yapp_core.specs.Core.{refusedCore, begunCore, begunWithin, settingsBy, nowhere, heard, shownIn}
 use Rattle.yapp_sender.specs.declared.Sender.{Sender}
 use Rattle.yapp_sender.specs.declared.SenderAnswer.{SenderAnswer}
 
--- ---- the beginning: 3, 4, 5 in this order
+-- ---- the beginning
 
+-- a sender that has ended before it began
 abbrev pub refusedBegin : Outcome → Sender
-refusedBegin o = record { reader = fresh false; name = replicate 64 0; core = refusedCore o }
+refusedBegin o = record {
+  reader = fresh false;
+  name = replicate 64 0;
+  core = record { state = Ended o; named = 0; size = 0; block = 0; stamp = Absent; resumes = false };
+}
 
 abbrev pub begunSender : List ℕ → ℕ → ℕ → Stamp → Bool → Sender
 begunSender name size block stamp resumes = record {
   reader = fresh false;
   name = appended 0 name (replicate 64 0);
-  core = begunCore (length name) size block stamp resumes;
+  core = record { state = S false 0; named = length name; size = size; block = block; stamp = stamp; resumes = resumes };
 }
 
+-- 3, 4, 5 in this order
 unfoldable pub begin : List ℕ → ℕ → ℕ → Stamp → Bool → Sender
-begin name size block stamp resumes = begunWithin name size block (begunSender name size block stamp resumes) refusedBegin
+begin name size block stamp resumes =
+    pick (isName name)
+    (pick (leb size 99999999)
+    (pick (leb 1 block && leb block 256) (begunSender name size block stamp resumes) (refusedBegin BlockOutside))
+    (refusedBegin LengthOutside))
+    (refusedBegin NameOutside)
 
 -- ---- the calls
 
@@ -41,7 +63,13 @@ pub record SenderAfter : Type 0 where
   pub reply : List ℕ
 
 abbrev pub settingsOf : Sender → SenderSettings
-settingsOf m = settingsBy (m .core) (m .name)
+settingsOf m = record {
+  name = take (m .core .named) (m .name);
+  size = m .core .size;
+  block = m .core .block;
+  stamp = m .core .stamp;
+  resumes = m .core .resumes;
+}
 
 -- a refused call changes nothing anywhere
 abbrev pub refusedCall : Sender → Status → List ℕ → SenderAfter
@@ -81,11 +109,29 @@ statusOf m file reply = checkOf (senderEnded (m .core .state)) (length reply) 0 
 abbrev pub unlessRefused : Status → Sender → List ℕ → SenderAfter → SenderAfter
 unlessRefused s m reply after = unless s (λ (x : Status). refusedCall m x reply) after
 
--- leave
+-- a chance to send (leave)
 unfoldable pub transmit : Sender → List ℕ → List ℕ → SenderAfter
 transmit m file reply =
     unlessRefused (statusOf m file reply) m reply
     (replied m (m .reader) 0 nowhere (senderTransmits (settingsOf m) file (m .core .state) (m .reader .checked)) reply)
+
+-- what a reader has found
+abbrev pub heard : Received → Content
+heard g = contentOf (g .reader .pending) (g .packet)
+
+abbrev pub isSD : SenderState → Bool
+isSD (S begun timeouts) = false
+isSD SH = false
+isSD (SD n) = true
+isSD SE = false
+isSD ST = false
+isSD (CW o) = false
+isSD (Ended o) = false
+
+-- SD passes TX on for display: where the text stands in the pending bytes
+unfoldable pub shownIn : SenderState → Content → Received → Place
+shownIn st c g =
+    pick (isSD st && eqb (kindOf c) TX) (placeOf (g .reader .checked) (take (sizeOf (g .found)) (g .reader .pending))) nowhere
 
 abbrev pub arrived : Sender → Received → List ℕ → SenderAfter
 arrived m g reply =

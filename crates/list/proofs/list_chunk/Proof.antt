@@ -1,27 +1,29 @@
--- `list::list_chunk` is safe and ends: each step takes at least one byte of the chunk.
--- Assumes nothing.
+-- `list::list_chunk` is safe and ends: each step takes at least one byte of the chunk. Assumes nothing.
+use mathlib.Core.Path.{_≡_, ap, _∙_}
 use Prim.Native.Nat.{_-_, _≤_}
 use native.Mathlib.Omega.{arith}
 use denote.Ref.{now}
 use lib.ListN.{length, take, drop, length-take, length-drop}
 use borrow.Author.Needs.{needs}
+use Rattle.list.proofs.Room.{append-within}
 use Rattle.listing.proofs.Steps.{Progress, progress}
 use Rattle.list.proofs.list_chunk.Statement.{statement}
 use Rattle.list.proofs.list_chunk.Tie as tie
 
 abbrev Inv-loop : tie.InvT-loop
-Inv-loop chunk l₀ line₀ at₀ l line at = at ≤ length chunk
+Inv-loop chunk out₀ l₀ line₀ at₀ count₀ out l line at count =
+    (at ≤ length chunk) × (count ≤ length out) × (length out ≡ length out₀)
 
 abbrev μ-loop : tie.MeasureT-loop
-μ-loop chunk l₀ line₀ at₀ l line at = length chunk - at
+μ-loop chunk out₀ l₀ line₀ at₀ count₀ out l line at count = length chunk - at
 
 -- what a turn's step did
 turn : (c : tie.After-step Inv-loop μ-loop) →
-    let s = now (c .before .before .before .before .before .before .args .chunk) in
+    let s = now (c .before .before .before .before .before .before .before .args .chunk) in
     let at = c .before .before .before .before .loop .at in
     Progress (take (length s - at) (drop at s)) (record { listed = c .step .result; out = c .step .last .1 .1 .0 })
 turn c =
-    let s = now (c .before .before .before .before .before .before .args .chunk) in
+    let s = now (c .before .before .before .before .before .before .before .args .chunk) in
     let o = c .before .before .before .before .loop in
     rw (c .step .ensures) at (progress (o .l) (take (length s - o .at) (drop (o .at) s)) (o .line) (simp (length-take, length-drop) (omega arith)))
 
@@ -44,21 +46,29 @@ add-at : tie.Need-add-at Inv-loop μ-loop
 add-at c = omega (arith, simp (length-take, length-drop) at (turn (c .before .before) .most))
 
 array-share-prefix-line : tie.Need-array-share-prefix-line Inv-loop μ-loop
-array-share-prefix-line c = turn (c .before .before) .fits
+array-share-prefix-line c = turn (c .before .before .before) .fits
 
-slice-aggregate-write-all : tie.Need-slice-aggregate-write-all Inv-loop μ-loop
-slice-aggregate-write-all c = simp length-take (omega (arith, turn (c .before .before .before) .fits))
+slice-aggregate-append-bytes : tie.Need-slice-aggregate-append-bytes Inv-loop μ-loop
+slice-aggregate-append-bytes c = simp length-take (omega (arith, turn (c .before .before .before .before) .fits))
 
-write-all-requires : tie.Need-write-all-requires Inv-loop μ-loop
-write-all-requires c κs = search needs
+append-bytes-requires : tie.Need-append-bytes-requires Inv-loop μ-loop
+append-bytes-requires c κs = search needs
 
 loop-less : tie.Need-loop-less Inv-loop μ-loop
 loop-less c =
-    let p = turn (c .before .before .before .before) in
+    let p = turn (c .before .before .before .before .before .before .before) in
     omega (arith, p .least, simp (length-take, length-drop) at (p .most))
 
 loop-again : tie.Need-loop-again Inv-loop μ-loop
-loop-again c = omega (arith, simp (length-take, length-drop) at (turn (c .before .before .before .before) .most))
+loop-again c =
+    let o = c .before .before .before .before .before .before .before .before .before .before .before .loop in
+    let a = c .before .before .append-bytes in
+    let p = turn (c .before .before .before .before .before .before .before) in
+    let w = append-within (o .count) (take (c .before .before .before .before .before .before .before .step .result .written) (c .before .before .before .before .before .before .before .step .last .1 .1 .0)) (o .out) (omega arith) in
+    (omega (arith, simp (length-take, length-drop) at (p .most)), rw (a .ensures .0, a .ensures .1) (w .0), ap length (a .ensures .1) ∙ w .1 ∙ o .inv .2)
+
+same-length : tie.Need-same-length Inv-loop μ-loop
+same-length c = search needs
 
 returns : tie.Need-returns Inv-loop μ-loop
 returns c = search needs
@@ -76,8 +86,9 @@ list-chunk-spec =
     step-requires
     add-at
     array-share-prefix-line
-    slice-aggregate-write-all
-    write-all-requires
+    slice-aggregate-append-bytes
+    append-bytes-requires
     loop-less
     loop-again
+    same-length
     returns)

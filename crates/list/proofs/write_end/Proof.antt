@@ -13,11 +13,11 @@ end-requires c κs = search needs
 array-share-prefix-last : tie.Need-array-share-prefix-last
 array-share-prefix-last c = rw (c .end .ensures .0, c .end .ensures .1) (within _ _)
 
-slice-aggregate-write-all : tie.Need-slice-aggregate-write-all
-slice-aggregate-write-all c = simp length-take (omega (arith, array-share-prefix-last (c .before)))
+slice-aggregate-write : tie.Need-slice-aggregate-write
+slice-aggregate-write c = simp length-take (omega (arith, array-share-prefix-last (c .before)))
 
-write-all-requires : tie.Need-write-all-requires
-write-all-requires c κs = search needs
+write-requires : tie.Need-write-requires
+write-requires c κs = search needs
 
 returns : tie.Need-returns
 returns c = search needs
@@ -28,6 +28,6 @@ write-end-spec =
     (tie.spec
     end-requires
     array-share-prefix-last
-    slice-aggregate-write-all
-    write-all-requires
+    slice-aggregate-write
+    write-requires
     returns)

@@ -1,7 +1,6 @@
 -- `listing::put_found` meets its contract: by the span.
 -- Assumes nothing.
 use mathlib.Core.Path.{refl, sym}
-use native.Mathlib.Omega.{arith}
 use denote.Ref.{now}
 use Rattle.fields.proofs.Buffer.{over-none}
 use borrow.Author.Needs.{needs}
@@ -14,20 +13,14 @@ enum-told c = search needs
 enum-known-found : tie.Need-enum-known-found
 enum-known-found c = search needs
 
-cast-put-packet : tie.Need-cast-put-packet
-cast-put-packet c = let h = rw (c .before .before .found .given .1) at (c .before .before .before .before .pre) in omega (arith, h)
-
 put-packet-requires : tie.Need-put-packet-requires
-put-packet-requires c κs = search needs
+put-packet-requires c κs = rw (c .before .before .found .given .1) at (c .before .before .before .before .pre)
 
 enum-known-found-2 : tie.Need-enum-known-found-2
 enum-known-found-2 c = search needs
 
-cast-put-packet-2 : tie.Need-cast-put-packet-2
-cast-put-packet-2 c = let h = rw (c .before .before .found2 .given .1) at (c .before .before .before .before .pre) in omega (arith, h)
-
 put-packet-requires-2 : tie.Need-put-packet-requires-2
-put-packet-requires-2 c κs = search needs
+put-packet-requires-2 c κs = rw (c .before .before .found2 .given .1) at (c .before .before .before .before .pre)
 
 returns : tie.Need-returns
 returns c = rw (c .enum-told .given .1) (refl, sym (over-none (now (c .before .before .args .out))))
@@ -44,10 +37,8 @@ put-found-spec =
     (tie.spec
     enum-told
     enum-known-found
-    cast-put-packet
     put-packet-requires
     enum-known-found-2
-    cast-put-packet-2
     put-packet-requires-2
     returns
     returns-2

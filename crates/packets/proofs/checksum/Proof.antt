@@ -1,34 +1,35 @@
 -- `checksum` gives the sum of the bytes modulo 256. The invariant: what is summed and the sum of what is left agree with it.
 -- Assumes nothing.
 use mathlib.Core.Path.{_≡_, sym, _∙_}
+use mathlib.Core.List.{sum}
 use Prim.Native.Nat.{_+_, _-_, _%_, _≤_, _<_}
 use native.Mathlib.Nat.{mod-lt}
 use native.Mathlib.Omega.{arith}
 use borrow.Author.Needs.{needs}
 use denote.Ref.{now}
-use lib.ListN.{length, drop, getD}
-use Rattle.packets.specs.Packet.{sum, checksum}
+use lib.ListN.{length, drop}
+use Rattle.packets.specs.Packet.{checksum}
 use Rattle.packets.proofs.Sums.{checksum-start, checksum-more, checksum-end}
 use Rattle.packets.proofs.checksum.Statement.{statement}
 use Rattle.packets.proofs.checksum.Tie as tie
 
 abbrev Inv-loop : tie.InvT-loop
-Inv-loop d acc₀ i₀ acc i = (i ≤ length d) × (acc < 256) × ((acc + sum (drop i d)) % 256 ≡ checksum d)
+Inv-loop d acc₀ i₀ acc i = (i ≤ length d) × (acc < 256) × ((acc + sum _+_ 0 (drop i d)) % 256 ≡ checksum d)
 
 abbrev μ-loop : tie.MeasureT-loop
 μ-loop d acc₀ i₀ acc i = length d - i
 
 loop-holds : tie.Need-loop-holds Inv-loop μ-loop
-loop-holds c = (omega arith, omega arith, checksum-start (now (c .before .args .d)))
+loop-holds c = (omega arith, omega arith, checksum-start (now (c .args .d)))
 
-shared-slice-read-wide : tie.Need-shared-slice-read-wide Inv-loop μ-loop
-shared-slice-read-wide c = search needs
+shared-slice-read-acc : tie.Need-shared-slice-read-acc Inv-loop μ-loop
+shared-slice-read-acc c = search needs
 
-wide-requires : tie.Need-wide-requires Inv-loop μ-loop
-wide-requires c κs = search needs
+cast-acc : tie.Need-cast-acc Inv-loop μ-loop
+cast-acc c = omega (arith, c .shared-slice-known .given (c .before .before .loop .i))
 
 add-acc : tie.Need-add-acc Inv-loop μ-loop
-add-acc c = omega (arith, c .wide .ensures, c .before .shared-slice-known2 .given (c .before .before .before .loop .i))
+add-acc c = omega (arith, c .shared-slice-known .given (c .before .before .loop .i))
 
 add-i : tie.Need-add-i Inv-loop μ-loop
 add-i c = search needs
@@ -38,10 +39,9 @@ loop-less c = search needs
 
 loop-again : tie.Need-loop-again Inv-loop μ-loop
 loop-again c =
-    let s = now (c .before .before .before .before .before .args .d) in
-    let l = c .before .before .before .loop in
-    let e : c .wide .result ≡ getD s (l .i) 0 = c .wide .ensures in
-    (omega arith, mod-lt _ (omega arith), rw e (sym (checksum-more s (l .i) (l .acc) (omega arith)) ∙ l .inv .2))
+    let s = now (c .before .before .before .args .d) in
+    let l = c .before .before .loop in
+    (omega arith, mod-lt _ (omega arith), sym (checksum-more s (l .i) (l .acc) (omega arith)) ∙ l .inv .2)
 
 cast-result : tie.Need-cast-result Inv-loop μ-loop
 cast-result c = search needs
@@ -49,7 +49,7 @@ cast-result c = search needs
 returns : tie.Need-returns Inv-loop μ-loop
 returns c =
     let l = c .before .loop in
-    sym (checksum-end (now (c .before .before .before .args .d)) (l .i) (l .acc) (omega arith) (l .inv .1)) ∙ l .inv .2
+    sym (checksum-end (now (c .before .before .args .d)) (l .i) (l .acc) (omega arith) (l .inv .1)) ∙ l .inv .2
 
 pub checksum-spec : {M : Type 1} → statement M
 checksum-spec =
@@ -58,8 +58,8 @@ checksum-spec =
     Inv-loop
     μ-loop
     loop-holds
-    shared-slice-read-wide
-    wide-requires
+    shared-slice-read-acc
+    cast-acc
     add-acc
     add-i
     loop-less

@@ -1,15 +1,15 @@
 -- The loop of `run` ends: each turn passes a byte of the script at least. Assumes nothing.
-use Prim.Native.Nat.{_≤_, _-_}
+use Prim.Native.Nat.{_≤_}
 use lib.ListN.{length}
 use borrow.Author.Needs.{needs}
 use Rattle.run_bin_receiver.proofs.run.Statement.{statement}
 use Rattle.run_bin_receiver.proofs.run.Tie as tie
 
 abbrev Inv-loop : tie.InvT-loop
-Inv-loop script area₀ m₀ at₀ t6 area m at = at ≤ length script
+Inv-loop script area₀ m₀ rest₀ t8 area m rest = length rest ≤ length script
 
 abbrev μ-loop : tie.MeasureT-loop
-μ-loop script area₀ m₀ at₀ t6 area m at = length script - at
+μ-loop script area₀ m₀ rest₀ t8 area m rest = length rest
 
 slice-aggregate-area : tie.Need-slice-aggregate-area Inv-loop μ-loop
 slice-aggregate-area c = search needs
@@ -20,14 +20,8 @@ fresh-requires c κs = search needs
 loop-holds : tie.Need-loop-holds Inv-loop μ-loop
 loop-holds c = search needs
 
-part-requires : tie.Need-part-requires Inv-loop μ-loop
-part-requires c κs = search needs
-
-find-requires : tie.Need-find-requires Inv-loop μ-loop
-find-requires c κs = search needs
-
-part-requires-2 : tie.Need-part-requires-2 Inv-loop μ-loop
-part-requires-2 c κs = search needs
+before-requires : tie.Need-before-requires Inv-loop μ-loop
+before-requires c κs = search needs
 
 put-requires : tie.Need-put-requires Inv-loop μ-loop
 put-requires c κs = search needs
@@ -62,9 +56,7 @@ run-spec =
     slice-aggregate-area
     fresh-requires
     loop-holds
-    part-requires
-    find-requires
-    part-requires-2
+    before-requires
     put-requires
     turn-requires
     slice-aggregate-put

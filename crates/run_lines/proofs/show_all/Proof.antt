@@ -1,27 +1,21 @@
 -- The loop of `show_all` ends: each turn passes a byte at least. Assumes nothing.
-use Prim.Native.Nat.{_≤_, _-_}
+use Prim.Native.Nat.{_≤_}
 use lib.ListN.{length}
 use borrow.Author.Needs.{needs}
 use Rattle.run_lines.proofs.show_all.Statement.{statement}
 use Rattle.run_lines.proofs.show_all.Tie as tie
 
 abbrev Inv-loop : tie.InvT-loop
-Inv-loop frames at₀ at = at ≤ length frames
+Inv-loop frames rest₀ rest = length rest ≤ length frames
 
 abbrev μ-loop : tie.MeasureT-loop
-μ-loop frames at₀ at = length frames - at
+μ-loop frames rest₀ rest = length rest
 
 loop-holds : tie.Need-loop-holds Inv-loop μ-loop
 loop-holds c = search needs
 
-part-requires : tie.Need-part-requires Inv-loop μ-loop
-part-requires c κs = search needs
-
-find-requires : tie.Need-find-requires Inv-loop μ-loop
-find-requires c κs = search needs
-
-part-requires-2 : tie.Need-part-requires-2 Inv-loop μ-loop
-part-requires-2 c κs = search needs
+before-requires : tie.Need-before-requires Inv-loop μ-loop
+before-requires c κs = search needs
 
 show-requires : tie.Need-show-requires Inv-loop μ-loop
 show-requires c κs = search needs
@@ -45,9 +39,7 @@ show-all-spec =
     Inv-loop
     μ-loop
     loop-holds
-    part-requires
-    find-requires
-    part-requires-2
+    before-requires
     show-requires
     behind-requires
     loop-less

@@ -1,27 +1,21 @@
 -- The loop of `read_all` ends: each turn passes a byte at least. Assumes nothing.
-use Prim.Native.Nat.{_≤_, _-_}
+use Prim.Native.Nat.{_≤_}
 use lib.ListN.{length}
 use borrow.Author.Needs.{needs}
 use Rattle.run_records.proofs.read_all.Statement.{statement}
 use Rattle.run_records.proofs.read_all.Tie as tie
 
 abbrev Inv-loop : tie.InvT-loop
-Inv-loop cases at₀ at = at ≤ length cases
+Inv-loop cases rest₀ rest = length rest ≤ length cases
 
 abbrev μ-loop : tie.MeasureT-loop
-μ-loop cases at₀ at = length cases - at
+μ-loop cases rest₀ rest = length rest
 
 loop-holds : tie.Need-loop-holds Inv-loop μ-loop
 loop-holds c = search needs
 
-part-requires : tie.Need-part-requires Inv-loop μ-loop
-part-requires c κs = search needs
-
-find-requires : tie.Need-find-requires Inv-loop μ-loop
-find-requires c κs = search needs
-
-part-requires-2 : tie.Need-part-requires-2 Inv-loop μ-loop
-part-requires-2 c κs = search needs
+before-requires : tie.Need-before-requires Inv-loop μ-loop
+before-requires c κs = search needs
 
 read-case-requires : tie.Need-read-case-requires Inv-loop μ-loop
 read-case-requires c κs = search needs
@@ -45,9 +39,7 @@ read-all-spec =
     Inv-loop
     μ-loop
     loop-holds
-    part-requires
-    find-requires
-    part-requires-2
+    before-requires
     read-case-requires
     behind-requires
     loop-less

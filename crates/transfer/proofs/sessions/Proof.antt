@@ -7,10 +7,10 @@ use Rattle.transfer.proofs.sessions.Statement.{statement}
 use Rattle.transfer.proofs.sessions.Tie as tie
 
 abbrev Inv-loop : tie.InvT-loop
-Inv-loop own seed name file area₀ saved₀ state₀ number₀ area saved state number = length area ≡ length area₀
+Inv-loop own seed name file area₀ failed₀ saved₀ state₀ number₀ area failed saved state number = length area ≡ length area₀
 
 abbrev μ-loop : tie.MeasureT-loop
-μ-loop own seed name file area₀ saved₀ state₀ number₀ area saved state number = 5 - number
+μ-loop own seed name file area₀ failed₀ saved₀ state₀ number₀ area failed saved state number = 5 - number
 
 nothing-requires : tie.Need-nothing-requires Inv-loop μ-loop
 nothing-requires c κs = search needs
@@ -57,6 +57,12 @@ same-length-2 c = search needs
 returns-2 : tie.Need-returns-2 Inv-loop μ-loop
 returns-2 c = search needs
 
+same-length-3 : tie.Need-same-length-3 Inv-loop μ-loop
+same-length-3 c = search needs
+
+returns-3 : tie.Need-returns-3 Inv-loop μ-loop
+returns-3 c = search needs
+
 pub sessions-spec : {M : Type 1} → statement M
 sessions-spec =
     tie.close
@@ -73,8 +79,10 @@ sessions-spec =
     print-record-requires
     same-length
     returns
+    same-length-2
+    returns-2
     add-number
     loop-less
     loop-again
-    same-length-2
-    returns-2)
+    same-length-3
+    returns-3)

@@ -1,18 +1,40 @@
--- `resume` is the beginning that the record's bytes give. Assumes nothing.
-use mathlib.Core.Path.{sym}
-use denote.Ref.{now}
-use Rattle.bin_receiver.proofs.Calls.{resume-is}
+-- `resume` goes by what the record's bytes are. Assumes nothing.
+use Rattle.bin_receiver.specs.Receiver.{resume}
 use borrow.Author.Needs.{needs}
 use Rattle.bin_receiver.proofs.Receiver.resume.Statement.{statement}
 use Rattle.bin_receiver.proofs.Receiver.resume.Tie as tie
 
-begin-requires : tie.Need-begin-requires
-begin-requires c κs = search needs
+record-of-requires : tie.Need-record-of-requires
+record-of-requires c κs = search needs
+
+enum-known-r : tie.Need-enum-known-r
+enum-known-r c = search needs
+
+enum-told : tie.Need-enum-told
+enum-told c = search needs
+
+ended-requires : tie.Need-ended-requires
+ended-requires c κs = search needs
 
 returns : tie.Need-returns
-returns c =
-    let a = c .before .before .before .before .args in
-    rw (c .before .before .begin .ensures) (sym (resume-is (now (a .bytes)) (a .room) (a .resumes)))
+unfolding resume
+returns c = rw (← c .before .before .before .record-of .ensures, c .before .enum-told .given .1) (c .ended .ensures)
+
+saved-requires : tie.Need-saved-requires
+saved-requires c κs = search needs
+
+returns-2 : tie.Need-returns-2
+unfolding resume
+returns-2 c = rw (← c .before .before .before .before .record-of .ensures, c .before .before .r .given .1) (c .saved .ensures)
 
 pub resume-spec : {M : Type 1} → statement M
-resume-spec = tie.close (tie.spec begin-requires returns)
+resume-spec =
+    tie.close
+    (tie.spec
+    record-of-requires
+    enum-known-r
+    enum-told
+    ended-requires
+    returns
+    saved-requires
+    returns-2)

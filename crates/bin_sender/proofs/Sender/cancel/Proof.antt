@@ -4,15 +4,15 @@ use borrow.Author.Needs.{needs}
 use Rattle.bin_sender.proofs.Sender.cancel.Statement.{statement}
 use Rattle.bin_sender.proofs.Sender.cancel.Tie as tie
 
-settled-requires : tie.Need-settled-requires
-settled-requires c κs = search needs
+fail-requires : tie.Need-fail-requires
+fail-requires c κs = search needs
 
 same-length : tie.Need-same-length
 same-length c = search needs
 
 returns : tie.Need-returns
 unfolding cancel
-returns c = c .before .before .settled .ensures
+returns c = c .before .before .fail .ensures
 
 pub cancel-spec : {M : Type 1} → statement M
-cancel-spec = tie.close (tie.spec settled-requires same-length returns)
+cancel-spec = tie.close (tie.spec fail-requires same-length returns)

@@ -11,14 +11,14 @@ receive-requires c κs = search needs
 
 put-found-requires : tie.Need-put-found-requires
 put-found-requires c κs =
-    let r = c .before .before .before .before .args .self .reader in
-    rw (c .before .before .receive .ensures) (feed-size (r .checked) (r .pending) (r .filled) 0 (now (c .before .before .before .before .args .chunk)))
+    let r = c .before .before .before .args .self .reader in
+    rw (c .before .receive .ensures) (feed-size (r .checked) (r .pending) (r .filled) 0 (now (c .before .before .before .args .chunk)))
 
 advance-requires : tie.Need-advance-requires
 advance-requires c κs = search needs
 
 returns : tie.Need-returns
-returns c = rw (c .advance .ensures, c .before .put-found .ensures .0, c .before .put-found .ensures .1, c .before .before .before .before .receive .ensures)
+returns c = rw (c .before .advance .ensures, c .before .before .put-found .ensures .0, c .before .before .put-found .ensures .1, c .before .before .before .before .receive .ensures)
 
 pub step-spec : {M : Type 1} → statement M
 step-spec = tie.close (tie.spec receive-requires put-found-requires advance-requires returns)

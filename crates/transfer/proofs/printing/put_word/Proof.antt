@@ -5,10 +5,10 @@ use Rattle.transfer.proofs.printing.put_word.Statement.{statement}
 use Rattle.transfer.proofs.printing.put_word.Tie as tie
 
 abbrev Inv-loop : tie.InvT-loop
-Inv-loop words number rest₀ i₀ rest i = i ≤ number
+Inv-loop words number failed rest₀ i₀ rest i = i ≤ number
 
 abbrev μ-loop : tie.MeasureT-loop
-μ-loop words number rest₀ i₀ rest i = number - i
+μ-loop words number failed rest₀ i₀ rest i = number - i
 
 loop-holds : tie.Need-loop-holds Inv-loop μ-loop
 loop-holds c = search needs

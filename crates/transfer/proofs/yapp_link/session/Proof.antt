@@ -6,10 +6,10 @@ use Rattle.transfer.proofs.yapp_link.session.Statement.{statement}
 use Rattle.transfer.proofs.yapp_link.session.Tie as tie
 
 abbrev Inv-loop : tie.InvT-loop
-Inv-loop checks name left file area₀ e₀ rest₀ area e rest = length area ≡ length area₀
+Inv-loop checks name left file area₀ failed₀ e₀ rest₀ area failed e rest = length area ≡ length area₀
 
 abbrev μ-loop : tie.MeasureT-loop
-μ-loop checks name left file area₀ e₀ rest₀ area e rest = rest
+μ-loop checks name left file area₀ failed₀ e₀ rest₀ area failed e rest = rest
 
 begin-requires : tie.Need-begin-requires Inv-loop μ-loop
 begin-requires c κs = search needs

@@ -2,8 +2,8 @@
 -- Assumes nothing.
 use Rattle.packets.specs.Kind.{look}
 use Rattle.yapp.specs.Rows.{rowR, rowRH, rowSecond, rowRD, rowCW}
-use Rattle.yapp.specs.Table.{actionNumber, numbersFrom, table, receiveTable}
-use Rattle.yapp.proofs.Entries.{receive-at}
+use Rattle.yapp.specs.Table.{actionNumber}
+use Rattle.yapp.proofs.Entries.{numbersFrom, table, receiveTable, receive-at}
 use borrow.Author.Needs.{needs}
 use Rattle.yapp.proofs.table.receive_action.Statement.{statement}
 use Rattle.yapp.proofs.table.receive_action.Tie as tie

@@ -2,7 +2,7 @@
 -- Assumes nothing.
 use mathlib.Core.Path.{refl}
 use native.Mathlib.Omega.{arith}
-use Rattle.yapp.specs.Table.{receiverNumber}
+use Rattle.yapp.specs.Cells.{receiverNumber}
 use borrow.Author.Needs.{needs}
 use Rattle.yapp.proofs.table.receiver_number.Statement.{statement}
 use Rattle.yapp.proofs.table.receiver_number.Tie as tie

@@ -2,8 +2,8 @@
 -- Assumes nothing.
 use Rattle.packets.specs.Kind.{look}
 use Rattle.yapp.specs.Rows.{rowS, rowSH, rowSD, rowSE, rowST, rowCW}
-use Rattle.yapp.specs.Table.{actionNumber, numbersFrom, table, sendTable}
-use Rattle.yapp.proofs.Entries.{send-at}
+use Rattle.yapp.specs.Table.{actionNumber}
+use Rattle.yapp.proofs.Entries.{numbersFrom, table, sendTable, send-at}
 use borrow.Author.Needs.{needs}
 use Rattle.yapp.proofs.table.send_action.Statement.{statement}
 use Rattle.yapp.proofs.table.send_action.Tie as tie

@@ -2,7 +2,7 @@
 -- Assumes nothing.
 use mathlib.Core.Path.{refl}
 use native.Mathlib.Omega.{arith}
-use Rattle.yapp.specs.Table.{senderNumber}
+use Rattle.yapp.specs.Cells.{senderNumber}
 use borrow.Author.Needs.{needs}
 use Rattle.yapp.proofs.table.sender_number.Statement.{statement}
 use Rattle.yapp.proofs.table.sender_number.Tie as tie

@@ -1,25 +1,32 @@
--- `timeout` is the timer. Assumes nothing.
-use mathlib.Core.Path.{ap, _∙_}
+-- `timeout` is its event's step. Assumes nothing.
 use denote.Ref.{now}
-use Rattle.yapp_receiver.specs.Answers.{afterBy}
-use Rattle.yapp_receiver.proofs.Calls.{timeout-is}
+use Rattle.yapp.specs.Steps.{receiverTimesOut}
+use Rattle.yapp_receiver.specs.Receiver.{nowOf, timeout}
 use borrow.Author.Needs.{needs}
 use Rattle.yapp_receiver.proofs.Receiver.timeout.Statement.{statement}
 use Rattle.yapp_receiver.proofs.Receiver.timeout.Tie as tie
 
-settle-requires : tie.Need-settle-requires
-settle-requires c κs = search needs
+checked-requires : tie.Need-checked-requires
+checked-requires c κs = search needs
 
-answered-requires : tie.Need-answered-requires
-answered-requires c κs = search needs
+slice-aggregate-timeout : tie.Need-slice-aggregate-timeout
+slice-aggregate-timeout c = search needs
+
+timeout-requires : tie.Need-timeout-requires
+timeout-requires c κs = search needs
+
+unless-refused-requires : tie.Need-unless-refused-requires
+unless-refused-requires c κs = search needs
 
 same-length : tie.Need-same-length
 same-length c = search needs
 
 returns : tie.Need-returns
+unfolding timeout
 returns c =
-    let a = c .before .before .before .before .before .before .before .before .args in
-    timeout-is (a .self) (now (a .area)) (now (a .reply)) ∙ ap afterBy (c .before .before .before .settle .ensures) ∙ rw (c .answered .ensures)
+    let g = c .before .before .before .before .before .before .before .before .before .before .args in
+    c .before .before .unless-refused .ensures (receiverTimesOut (nowOf (g .self)) (now (g .area)) (g .self .core .state))
+    (rw (c .before .before .before .before .before .before .checked .ensures) at (c .before .before .before .before .timeout .ensures (now (g .area)) (g .self .reader .pending)))
 
 pub timeout-spec : {M : Type 1} → statement M
-timeout-spec = tie.close (tie.spec settle-requires answered-requires same-length returns)
+timeout-spec = tie.close (tie.spec checked-requires slice-aggregate-timeout timeout-requires unless-refused-requires same-length returns)

@@ -1,19 +1,16 @@
 -- SI, or the next block of the file. Assumes nothing.
-use Rattle.yapp_sender.specs.Acts.{settledBy}
-use Rattle.yapp_sender.specs.Sender.{transmit}
 use borrow.Author.Needs.{needs}
 use Rattle.yapp_sender.proofs.Sender.transmit.Statement.{statement}
 use Rattle.yapp_sender.proofs.Sender.transmit.Tie as tie
 
-settled-requires : tie.Need-settled-requires
-settled-requires c κs = search needs
+on-event-requires : tie.Need-on-event-requires
+on-event-requires c κs = search needs
 
 same-length : tie.Need-same-length
 same-length c = search needs
 
 returns : tie.Need-returns
-unfolding transmit settledBy
-returns c = c .before .before .settled .ensures
+returns c = c .before .before .on-event .ensures
 
 pub transmit-spec : {M : Type 1} → statement M
-transmit-spec = tie.close (tie.spec settled-requires same-length returns)
+transmit-spec = tie.close (tie.spec on-event-requires same-length returns)

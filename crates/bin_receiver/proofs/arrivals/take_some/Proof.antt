@@ -1,0 +1,76 @@
+-- `take_some` goes by the state. Assumes nothing.
+use mathlib.Core.Path.{ap, _∙_}
+use denote.Ref.{now}
+use Rattle.bin.specs.declared.ReceiverState.{ReceiverState}
+use Rattle.bin_receiver.specs.Arrivals.{stateStep}
+use borrow.Author.Needs.{needs}
+use Rattle.bin_receiver.proofs.arrivals.take_some.Statement.{statement}
+use Rattle.bin_receiver.proofs.arrivals.take_some.Tie as tie
+
+enum-told : tie.Need-enum-told
+enum-told c = search needs
+
+hear-requires : tie.Need-hear-requires
+hear-requires c κs = search needs
+
+enum-known-state : tie.Need-enum-known-state
+enum-known-state c = search needs
+
+take-basic-requires : tie.Need-take-basic-requires
+take-basic-requires c κs = search needs
+
+enum-known-state-2 : tie.Need-enum-known-state-2
+enum-known-state-2 c = search needs
+
+take-extended-requires : tie.Need-take-extended-requires
+take-extended-requires c κs = search needs
+
+enum-known-state-3 : tie.Need-enum-known-state-3
+enum-known-state-3 c = search needs
+
+end-requires : tie.Need-end-requires
+end-requires c κs = search needs
+
+same-length : tie.Need-same-length
+same-length c = search needs
+
+returns : tie.Need-returns
+returns c =
+    let g = c .before .before .before .before .before .before .before .args in
+    ap (λ (st : ReceiverState). stateStep (g .core) st (now (g .frame)) (now (g .name)) (now (g .area))) (c .before .before .enum-told .given .1)
+    ∙ rw (c .hear .ensures)
+
+same-length-2 : tie.Need-same-length-2
+same-length-2 c = search needs
+
+returns-2 : tie.Need-returns-2
+returns-2 c = rw (c .before .before .before .before .before .state .given .1) (c .before .before .take-basic .ensures)
+
+same-length-3 : tie.Need-same-length-3
+same-length-3 c = search needs
+
+returns-3 : tie.Need-returns-3
+returns-3 c = rw (c .before .before .before .before .before .state2 .given .1) (c .before .before .take-extended .ensures)
+
+returns-4 : tie.Need-returns-4
+returns-4 c = rw (c .before .before .state3 .given .1, c .end .ensures)
+
+pub take-some-spec : {M : Type 1} → statement M
+take-some-spec =
+    tie.close
+    (tie.spec
+    enum-told
+    hear-requires
+    enum-known-state
+    take-basic-requires
+    enum-known-state-2
+    take-extended-requires
+    enum-known-state-3
+    end-requires
+    same-length
+    returns
+    same-length-2
+    returns-2
+    same-length-3
+    returns-3
+    returns-4)

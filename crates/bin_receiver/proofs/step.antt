@@ -1,0 +1,2 @@
+-- Laws that the proofs of every module cite.
+pub mod Cases

@@ -1,0 +1,37 @@
+// What a #BIN# receiver does with a frame that has arrived. Only the bytes of the file are stored on the way.
+use crate::frame;
+use crate::line;
+use crate::step;
+use crate::step::Out;
+use crate::step::ReceiverCore;
+use crate::step::Step;
+use bin::ReceiverState;
+ghost use mathlib.Core.Path.{_≡_};
+ghost use Rattle.bin_receiver.specs.Step.{doneAs};
+ghost use Rattle.bin_receiver.specs.Arrivals.{stateStep, frameStep};
+
+// A frame that is not empty.
+fn take_some(core: ReceiverCore, frame: &[u8], name: &[u8], area: &mut [u8]) -> Step
+    ensures { λ r. ⌜ stateStep core (core .state) (now (frame .entry)) (now (name .entry)) (now (area .entry)) ≡ doneAs r (now (area .exit)) ⌝ }
+{
+    let state = core.state;
+    let keeping = core.keeping;
+    match state {
+        ReceiverState::Waiting => line::hear(core, frame, name, area),
+        ReceiverState::Basic { size, kept } => frame::take_basic(size, kept, keeping, frame, area),
+        ReceiverState::Extended { crc } => frame::take_extended(crc, keeping, frame, area),
+        ReceiverState::Ended { outcome } => step::end(outcome, keeping, Out::Silent, 0),
+    }
+}
+
+// A frame has come, to a receiver whose record is held; an empty one changes nothing.
+pub fn take(core: ReceiverCore, frame: &[u8], name: &[u8], area: &mut [u8]) -> Step
+    ensures { λ r. ⌜ frameStep core (now (frame .entry)) (now (name .entry)) (now (area .entry)) ≡ doneAs r (now (area .exit)) ⌝ }
+{
+    if frame.len() == 0 {
+        let state = core.state;
+        let keeping = core.keeping;
+        return step::go(state, keeping, Out::Silent, 0);
+    }
+    take_some(core, frame, name, area)
+}

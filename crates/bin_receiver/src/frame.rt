@@ -1,0 +1,83 @@
+// What a #BIN# receiver does with a frame once a line is accepted: the storing of the file.
+use crate::step;
+use crate::step::Out;
+use crate::step::Step;
+use bin::ReceiverState;
+use calls::Entry;
+use calls::Keeping;
+use calls::Outcome;
+use calls::saving;
+use fields::Place;
+use fields::buffers;
+ghost use mathlib.Core.Path.{_≡_};
+ghost use Rattle.bin_receiver.specs.Step.{doneAs};
+ghost use Rattle.bin_receiver.specs.Frame.{entryFrame, extendedFrame, basicFrame, sortedStep};
+
+// A frame of the file is stored directly behind the kept bytes, and is counted as kept in the same step.
+fn store(crc: u16, entry: Entry, frame: &[u8], area: &mut [u8]) -> Step
+    ensures { λ r. ⌜ entryFrame crc entry (now (frame .entry)) (now (area .entry)) ≡ doneAs r (now (area .exit)) ⌝ }
+{
+    let stamp = entry.stamp;
+    let from = entry.kept;
+    let n = frame.len();
+    if saving::fits(from, n, entry.size) {
+        let at = from as usize;
+        buffers::append_bytes(area, at, frame);
+        let next = Entry {
+            named: entry.named,
+            size: entry.size,
+            kept: from + n as u32,
+            stamp,
+        };
+        let name = Place { start: 0, len: 0 };
+        return step::judge_whole(crc, next, Out::Silent, n, name, area);
+    }
+    step::end(Outcome::PastSize, Keeping::Of(entry), Out::Stop, 0)
+}
+
+fn store_kept(crc: u16, keeping: Keeping, frame: &[u8], area: &mut [u8]) -> Step
+    ensures { λ r. ⌜ extendedFrame crc keeping (now (frame .entry)) (now (area .entry)) ≡ doneAs r (now (area .exit)) ⌝ }
+{
+    match keeping {
+        Keeping::Nothing => step::end(Outcome::PastSize, Keeping::Nothing, Out::Stop, 0),
+        Keeping::Of(e) => store(crc, e, frame, area),
+    }
+}
+
+// The same in a basic transfer.
+fn store_basic(size: u32, kept: u32, keeping: Keeping, frame: &[u8], area: &mut [u8]) -> Step
+    ensures { λ r. ⌜ basicFrame size kept keeping (now (frame .entry)) (now (area .entry)) ≡ doneAs r (now (area .exit)) ⌝ }
+{
+    let n = frame.len();
+    if saving::fits(kept, n, size) {
+        buffers::append_bytes(area, kept as usize, frame);
+        return step::basic_at(size, kept + n as u32, keeping, Out::Silent, n);
+    }
+    step::end(Outcome::PastSize, keeping, Out::Stop, 0)
+}
+
+// A frame of an extended transfer that was accepted.
+pub fn take_extended(crc: u16, keeping: Keeping, frame: &[u8], area: &mut [u8]) -> Step
+    ensures { λ r. ⌜ sortedStep (ReceiverState.Extended crc) keeping (now (frame .entry)) (now (area .entry)) (extendedFrame crc keeping (now (frame .entry)) (now (area .entry))) ≡ doneAs r (now (area .exit)) ⌝ }
+{
+    if lines::is_display(frame) {
+        return step::go(ReceiverState::Extended { crc }, keeping, Out::Silent, 0);
+    }
+    if lines::is_stop(frame) {
+        return step::end(Outcome::Cancelled, keeping, Out::Silent, 0);
+    }
+    store_kept(crc, keeping, frame, area)
+}
+
+// The same in a basic transfer.
+pub fn take_basic(size: u32, kept: u32, keeping: Keeping, frame: &[u8], area: &mut [u8]) -> Step
+    ensures { λ r. ⌜ sortedStep (ReceiverState.Basic size kept) keeping (now (frame .entry)) (now (area .entry)) (basicFrame size kept keeping (now (frame .entry)) (now (area .entry))) ≡ doneAs r (now (area .exit)) ⌝ }
+{
+    if lines::is_display(frame) {
+        return step::go(ReceiverState::Basic { size, kept }, keeping, Out::Silent, 0);
+    }
+    if lines::is_stop(frame) {
+        return step::end(Outcome::Cancelled, keeping, Out::Silent, 0);
+    }
+    store_basic(size, kept, keeping, frame, area)
+}

@@ -1,2 +1,0 @@
--- Laws that the crates above cite too.
-pub mod Cases

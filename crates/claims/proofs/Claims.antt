@@ -1,0 +1,220 @@
+-- What is claimed, in full, each claim proved by citing its theorem. To believe one, read it and the definitions that it names (specs/ of the
+-- crate in its `use` line) beside the paper; no proof need be read. What code promises stands in its contracts, which cite the same definitions.
+-- Assumes nothing.
+use Prim.Native.Nat.{ℕ, suc, _≤_, _<_, _^_}
+use mathlib.Core.Path.{_≡_}
+use mathlib.Core.Bool.{Bool, true, false}
+use mathlib.Core.List.{List, _++_, flatten}
+use lib.ListN.{length, getD}
+use Rattle.fields.specs.Name.{isName}
+use Rattle.fields.specs.Lists.{all, bytesAt}
+use Rattle.fields.specs.Buffer.{bytes}
+use Rattle.numbers.specs.declared.Number.the-variants.{Value}
+use Rattle.numbers.specs.Writing.{decimal, hex, little}
+use Rattle.numbers.specs.Reading.{readDecimal, readHex, readLittle}
+use Rattle.numbers.specs.Canonical.{plain, capitals, isByte}
+use Rattle.numbers.proofs.RoundTrip as numbers
+use Rattle.crc.specs.Crc.{table, entry, crcOf, walkFrom}
+use Rattle.crc.proofs.Table as crc-table
+use Rattle.crc.proofs.Laws as crc
+use Rattle.packets.specs.declared.Header.{Header}
+use Rattle.packets.specs.declared.Resume.{Resume}
+use Rattle.packets.specs.declared.Block.{Block}
+use Rattle.packets.specs.declared.Packet.the-variants.{HD, RE, DT}
+use Rattle.packets.specs.declared.spans.Span.the-variants.{Whole}
+use Rattle.packets.specs.Span.{span}
+use Rattle.packets.specs.Packet.{packetOf}
+use Rattle.packets.specs.Content as packet
+use Rattle.packets.specs.Canonical.{inForm, isBlock}
+use Rattle.packets.proofs.RoundTrip as packets
+use Rattle.packets.proofs.WriteBack as packets-back
+use Rattle.packets.proofs.Limits as packet-limits
+use Rattle.packet_stream.specs.Reader.{fresh}
+use Rattle.packet_stream.specs.Stream.{streamOf, handAll, Bytes}
+use Rattle.packet_stream.proofs.Chunks as chunks
+use Rattle.lines.specs.Frame.{frameOf}
+use Rattle.lines.specs.Element as line
+use Rattle.lines.specs.Canonical.{canonical}
+use Rattle.lines.proofs.RoundTrip as lines
+use Rattle.lines.proofs.Limits as line-limits
+use Rattle.records.specs.declared.Record.{Record}
+use Rattle.records.specs.declared.RecordRead.the-variants.{Good}
+use Rattle.records.specs.Record.{recordOf}
+use Rattle.records.specs.Saved.{Saved, savedOf, recordForm}
+use Rattle.records.proofs.RoundTrip as records
+use Rattle.listing.specs.Text.{heading, listing}
+use Rattle.listing.specs.Lister as lister
+use Rattle.listing.proofs.Listing as listings
+use Rattle.calls.specs.Checks.{checkOf}
+use Rattle.calls.specs.Numbers.{statusNumber}
+use Rattle.calls.proofs.Order as order
+use Rattle.transfers.specs.World.{World, first, Safe}
+use Rattle.transfers.specs.Demand.{Session, after, FairIn, FairAll, CalmIn, Ends, Completes, ComesToEndIn, ServesIn}
+use Rattle.transfers.proofs.Demand as demand
+use Rattle.transfers.proofs.Examples.{Agree, examples}
+use Rattle.transfers.proofs.Examples as worked
+
+-- ---- DEMAND 3 (crates/transfers). Of every file, name and area within document 01's limits (World) and every list of sessions, each by YAPP or
+-- extended #BIN#, each a list of calls of any kind at its two ends over a link that keeps bytes and their order (FairIn, FairAll):
+
+-- after every call the kept bytes are the file's beginning, as many as came less each fall at RE, the record says how many, and every other byte
+-- of the area is as before the first session (Safe)
+pub safety : (w : World) (ss : List Session) → FairAll w ss (first w) → Safe w (after w ss (first w))
+safety w = demand.safety w
+
+-- if the last session has no timer and no operator's stop (CalmIn) and is run to its end (Ends), both ends report success and the area begins
+-- with the whole file (Completes)
+pub completion : (w : World) (ss : List Session) (s : Session) → FairAll w ss (first w) → FairIn w s (after w ss (first w))
+    → CalmIn w s (after w ss (first w)) → Ends w s (after w ss (first w)) → Completes w s (after w ss (first w))
+completion w = demand.completion w
+
+-- such a session comes to its end, whoever makes its calls: what is still sent and taken is bounded, and where nothing is, it is run to its end
+pub ending : (w : World) (ss : List Session) (s : Session) → FairAll w ss (first w) → FairIn w s (after w ss (first w))
+    → CalmIn w s (after w ss (first w)) → ComesToEndIn w s (after w ss (first w))
+ending w = demand.ending w
+
+-- every call answers as the check has it, a refused one changes nothing, one that document 01 describes is taken, and nothing escapes the count
+pub served : (w : World) (ss : List Session) (s : Session) → FairAll w ss (first w) → FairIn w s (after w ss (first w))
+    → ServesIn w s (after w ss (first w))
+served w = demand.served w
+
+-- ---- THE CHECKS OF A CALL (crates/calls): 18, 20, 19, 40 in this order; 0 where the call is taken
+
+pub check-ended : (reply frame lent given : ℕ) → statusNumber (checkOf true reply frame lent given) ≡ 18
+check-ended = order.ended
+
+pub check-reply : (reply frame lent given : ℕ) → reply < 259 → statusNumber (checkOf false reply frame lent given) ≡ 20
+check-reply = order.small-reply
+
+pub check-frame : (reply frame lent given : ℕ) → 259 ≤ reply → 256 < frame → statusNumber (checkOf false reply frame lent given) ≡ 19
+check-frame = order.long-frame
+
+pub check-lent : (reply frame lent given : ℕ) → 259 ≤ reply → frame ≤ 256 → (lent ≡ given → ⊥)
+    → statusNumber (checkOf false reply frame lent given) ≡ 40
+check-lent = order.wrong-length
+
+pub check-taken : (reply frame lent given : ℕ) → 259 ≤ reply → frame ≤ 256 → lent ≡ given
+    → statusNumber (checkOf false reply frame lent given) ≡ 0
+check-taken = order.taken
+
+-- ---- PACKETS OF YAPP, both ways and in both modes (crates/packets): demand 2
+
+-- what we write is a packet whole at its own length, and reads back as the same packet
+pub packet-reads-back : (k : Bool) (c : packet.Content) (b : List ℕ) → packet.formOf k c ≡ bytes b
+    → (span k b ≡ Whole (length b)) × (packet.contentOf b (packetOf k b) ≡ c)
+packet-reads-back = packets.reads-back
+
+-- a whole packet in the form that we write is written back unchanged
+pub packet-writes-back : (k : Bool) (b : List ℕ) → all isByte b ≡ true → span k b ≡ Whole (length b) → inForm k b ≡ true
+    → packet.formOf k (packet.contentOf b (packetOf k b)) ≡ bytes b
+packet-writes-back = packets-back.writes-back
+
+-- and what we write is in that form, and fits a reply buffer of 259 bytes
+pub packet-in-form : (k : Bool) (c : packet.Content) (b : List ℕ) → packet.formOf k c ≡ bytes b → inForm k b ≡ true
+packet-in-form = packets.in-form
+
+pub packet-fits : (k : Bool) (c : packet.Content) (b : List ℕ) → packet.formOf k c ≡ bytes b → length b ≤ 259
+packet-fits = packets.reply-fits
+
+-- only a DT differs between YAPP and YappC
+pub plain-alike : (k m : Bool) (c : packet.Content) → isBlock c ≡ false → packet.formOf k c ≡ packet.formOf m c
+plain-alike = packets.plain-alike
+
+-- what is read keeps to the limits of names, sizes, stamps, positions and blocks
+pub header-limits : (k : Bool) (b : List ℕ) (h : Header) → packetOf k b ≡ HD h
+    → (isName (bytesAt b (h .name)) ≡ true) × (h .size ≤ 99999999) × (packet.stampFits (h .stamp) ≡ true)
+header-limits = packet-limits.header-limits
+
+pub resume-limits : (k : Bool) (b : List ℕ) (r : Resume) → packetOf k b ≡ RE r → r .position ≤ 99999999
+resume-limits = packet-limits.resume-limits
+
+pub block-limits : (k : Bool) (b : List ℕ) (d : Block) → all isByte b ≡ true → packetOf k b ≡ DT d
+    → (1 ≤ d .place .len) × (d .place .len ≤ 256) × (length (bytesAt b (d .place)) ≡ d .place .len)
+block-limits = packet-limits.block-limits
+
+-- ---- ANY CHUNKS (crates/packet_stream)
+
+-- a fresh reader that is handed any bytes in any chunks finds the packets and drops of the bytes, takes all of them, and what is left waits in it
+pub chunking : (k : Bool) (cs : List (List ℕ)) → Bytes (flatten cs)
+    → chunks.Yields k (handAll (fresh k) cs) (streamOf k (flatten cs)) (length (flatten cs))
+chunking = chunks.chunks
+
+-- so any two cuttings of the same bytes give the same
+pub cutting : (k : Bool) (cs ds : List (List ℕ)) → flatten cs ≡ flatten ds → Bytes (flatten cs)
+    → (handAll (fresh k) cs .pieces ≡ handAll (fresh k) ds .pieces) × (handAll (fresh k) cs .taken ≡ handAll (fresh k) ds .taken)
+cutting = chunks.cutting
+
+-- ---- LINES AND REPLIES OF #BIN#, both ways (crates/lines)
+
+pub line-reads-back : (c : line.Element) (b : List ℕ) → line.formOf c ≡ bytes b → line.contentOf b (frameOf b) ≡ c
+line-reads-back = lines.reads-back
+
+pub line-writes-back : (b : List ℕ) → canonical b ≡ true → line.formOf (line.contentOf b (frameOf b)) ≡ bytes b
+line-writes-back = lines.writes-back
+
+pub line-in-form : (c : line.Element) (b : List ℕ) → line.formOf c ≡ bytes b → canonical b ≡ true
+line-in-form = lines.written-canonical
+
+-- what we write is a frame of 1 to 256 bytes
+pub line-lengths : (c : line.Element) (b : List ℕ) → line.formOf c ≡ bytes b → (1 ≤ length b) × (length b ≤ 256)
+line-lengths = line-limits.lengths
+
+-- what is read keeps to the limits
+pub line-within : (b : List ℕ) → line-limits.Within (line.contentOf b (frameOf b))
+line-within = line-limits.limits
+
+-- ---- THE SAVED RECORD, both ways (crates/records)
+
+pub record-reads-back : (s : Saved) (b : List ℕ) → recordForm s ≡ bytes b → (r : Record) × (recordOf b ≡ Good r) × (savedOf b r ≡ s)
+record-reads-back = records.reads-back
+
+pub record-writes-back : (b : List ℕ) (r : Record) → all isByte b ≡ true → recordOf b ≡ Good r → recordForm (savedOf b r) ≡ bytes b
+record-writes-back = records.writes-back
+
+pub record-lengths : (s : Saved) (b : List ℕ) → recordForm s ≡ bytes b → (14 ≤ length b) × (length b ≤ 81)
+record-lengths = records.record-length
+
+pub record-limits : (b : List ℕ) (r : Record) → recordOf b ≡ Good r → (isName (savedOf b r .name) ≡ true) × (r .size ≤ 99999999)
+record-limits = records.read-limits
+
+-- ---- THE LISTING (crates/listing)
+
+-- of any capture under 2^64 bytes, in any chunks and whatever the buffer d held: heading, lines and end are together the listing of the capture
+pub lists : (cs : List (List ℕ)) (d : List ℕ) → Bytes (flatten cs) → length (flatten cs) < 2 ^ 64
+    → heading ++ (lister.handAll lister.new cs d .text ++ lister.endText (lister.handAll lister.new cs d .lister)) ≡ listing (flatten cs)
+lists = listings.lists
+
+-- ---- THE CRC (crates/crc)
+
+-- entry i of the table is the remainder of i times x^16 by x^16 + x^12 + x^5 + 1
+pub remainders : (i : ℕ) → i < 256 → getD table i 0 ≡ entry i
+remainders = crc-table.table-at
+
+-- the CRC of a ++ b is the walk over b from the CRC of a
+pub crc-append : (a b : List ℕ) → crcOf (a ++ b) ≡ walkFrom (crcOf a) b
+crc-append = crc.crc-append
+
+-- ---- NUMBERS IN DIGITS AND BYTES (crates/numbers), once over the width
+
+pub decimal-read : (w n : ℕ) → n < 10 ^ 20 → n < 10 ^ suc w → readDecimal (suc w) (decimal n) ≡ Value n
+decimal-read = numbers.read-decimal
+
+pub decimal-back : (w v : ℕ) (s : List ℕ) → w ≤ 20 → readDecimal w s ≡ Value v → plain s ≡ true → decimal v ≡ s
+decimal-back = numbers.decimal-back
+
+pub hex-read : (v : ℕ) → v < 16 ^ 8 → readHex (hex 8 v) ≡ Value v
+hex-read = numbers.read-hex
+
+pub hex-back : (v : ℕ) (s : List ℕ) → readHex s ≡ Value v → capitals s ≡ true → hex 8 v ≡ s
+hex-back = numbers.hex-back
+
+pub little-read : (w v : ℕ) → w ≤ 4 → v < 256 ^ w → readLittle (little w v) ≡ Value v
+little-read = numbers.read-little
+
+pub little-back : (v : ℕ) (s : List ℕ) → readLittle s ≡ Value v → all isByte s ≡ true → little (length s) v ≡ s
+little-back = numbers.little-back
+
+-- ---- DOCUMENT 01'S EXAMPLES MARKED P, each what the paper prints (the list: crates/transfers/proofs/Examples.antt)
+
+pub examples-agree : Agree examples
+examples-agree = worked.agree

@@ -1,0 +1,2 @@
+-- The definitions, case by case, which the proofs of this crate cite.
+mod Cases

@@ -1,0 +1,31 @@
+-- `capital` gives the hex digit.
+-- Assumes nothing.
+use borrow.Author.Tests.{lt-ltb, le-ltb}
+use Rattle.numbers.specs.Writing.{capital}
+use borrow.Author.Needs.{needs}
+use Rattle.numbers.proofs.hex_writer.capital.Statement.{statement}
+use Rattle.numbers.proofs.hex_writer.capital.Tie as tie
+
+add-result : tie.Need-add-result
+add-result c = search needs
+
+cast-result : tie.Need-cast-result
+cast-result c = search needs
+
+add-result-2 : tie.Need-add-result-2
+add-result-2 c = search needs
+
+cast-result-2 : tie.Need-cast-result-2
+cast-result-2 c = search needs
+
+returns : tie.Need-returns
+unfolding capital
+returns c = simp (lt-ltb _ _ (c .if1 .taken))
+
+returns-2 : tie.Need-returns-2
+unfolding capital
+returns-2 c = simp (le-ltb _ _ (c .if1 .left))
+
+pub capital-spec : {M : Type 1} → statement M
+capital-spec =
+    tie.close (tie.spec add-result cast-result add-result-2 cast-result-2 returns returns-2)

@@ -1,0 +1,3 @@
+pub mod Reader
+pub mod Stream
+pub mod Pending

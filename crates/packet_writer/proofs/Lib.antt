@@ -1,0 +1,2 @@
+-- Laws of the buffer that the bytes of a packet are laid into.
+mod Leads

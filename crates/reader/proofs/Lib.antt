@@ -1,3 +1,0 @@
-pub mod Empty
-pub mod Held
-pub mod Chunks

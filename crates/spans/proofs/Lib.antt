@@ -1,3 +1,0 @@
--- Laws of the definitions of specs/, which this crate's proofs and its callers' cite.
-pub mod Laws
-pub mod Bounds

@@ -1,0 +1,77 @@
+-- The numbers by which the transcript prints states: the place of a state's word times 32, and the outcome's number where it has one; those
+-- of lines, and how long a record is.
+use Prim.Native.Nat.{ℕ, _+_}
+use mathlib.Core.Bool.{Bool}
+use mathlib.Core.List.{List}
+use lib.Dec.{leb}
+use Rattle.fields.specs.Pick.{pick}
+use Rattle.lines.specs.declared.Frame.{Frame}
+use Rattle.lines.specs.declared.Frame.the-variants.{Basic as BasicLine, Extended as ExtendedLine, MalformedLine, OK, OKName, OKKept, MalformedOK, NO, Stop, Display, Other}
+use Rattle.lines.specs.Frame.{frameOf}
+use Rattle.calls.specs.Count.{countOf}
+use Rattle.calls.specs.Numbers.{outcomeNumber}
+use Rattle.calls.specs.declared.RecordAnswer.{RecordAnswer}
+use Rattle.calls.specs.declared.RecordAnswer.the-variants.{NoRecord, Record}
+use Rattle.yapp.specs.declared.SenderState.{SenderState}
+use Rattle.yapp.specs.declared.SenderState.the-variants.{S, SH, SD, SE, ST, CW, Ended}
+use Rattle.yapp.specs.declared.ReceiverState.{ReceiverState}
+use Rattle.yapp.specs.declared.ReceiverState.the-variants.{R, RH, RD, CW as AbortedCW, Ended as ReceiverEnded}
+use Rattle.bin.specs.declared.SenderState.{SenderState as BinSenderState}
+use Rattle.bin.specs.declared.SenderState.the-variants.{Start, Wait, Send, Ended as BinSenderEnded}
+use Rattle.bin.specs.declared.ReceiverState.{ReceiverState as BinReceiverState}
+use Rattle.bin.specs.declared.ReceiverState.the-variants.{Waiting, Basic, Extended, Ended as BinReceiverEnded}
+
+abbrev pub senderNumber : SenderState → ℕ
+senderNumber (S begun timeouts) = 0
+senderNumber SH = 32
+senderNumber (SD at) = 64
+senderNumber SE = 96
+senderNumber ST = 128
+senderNumber (CW o) = 448 + outcomeNumber o
+senderNumber (Ended o) = 480 + outcomeNumber o
+
+abbrev pub receiverNumber : ReceiverState → ℕ
+receiverNumber R = 160
+receiverNumber (RH whole) = 192
+receiverNumber RD = 224
+receiverNumber (AbortedCW o) = 448 + outcomeNumber o
+receiverNumber (ReceiverEnded o) = 480 + outcomeNumber o
+
+abbrev pub binSenderNumber : BinSenderState → ℕ
+binSenderNumber Start = 256
+binSenderNumber Wait = 288
+binSenderNumber (Send at) = 320
+binSenderNumber (BinSenderEnded o) = 480 + outcomeNumber o
+
+abbrev pub binReceiverNumber : BinReceiverState → ℕ
+binReceiverNumber Waiting = 352
+binReceiverNumber (Basic size kept) = 384
+binReceiverNumber (Extended crc) = 416
+binReceiverNumber (BinReceiverEnded o) = 480 + outcomeNumber o
+
+-- the states from the word `ended` on
+abbrev pub isEnd : ℕ → Bool
+isEnd n = leb 480 n
+
+-- the place of a line's word
+abbrev pub lineNumber : Frame → ℕ
+lineNumber (BasicLine size) = 19
+lineNumber (ExtendedLine line) = 19
+lineNumber MalformedLine = 20
+lineNumber OK = 21
+lineNumber (OKName name) = 22
+lineNumber (OKKept kept) = 23
+lineNumber MalformedOK = 24
+lineNumber (NO text) = 25
+lineNumber Stop = 26
+lineNumber (Display text) = 27
+lineNumber Other = 28
+
+-- 29 for a frame of the file
+abbrev pub frameNumber : Bool → List ℕ → ℕ
+frameNumber isData b = pick isData 29 (lineNumber (frameOf b))
+
+-- how many bytes a record's answer has
+abbrev pub recordCount : RecordAnswer → ℕ
+recordCount NoRecord = 0
+recordCount (Record written) = countOf written

@@ -1,2 +1,0 @@
--- Laws of how packets begin.
-pub mod Codes

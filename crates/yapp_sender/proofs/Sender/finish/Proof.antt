@@ -1,0 +1,19 @@
+-- `finish` writes the reply and answers. Assumes nothing.
+use borrow.Author.Needs.{needs}
+use Rattle.yapp_sender.proofs.Sender.finish.Statement.{statement}
+use Rattle.yapp_sender.proofs.Sender.finish.Tie as tie
+
+put-requires : tie.Need-put-requires
+put-requires c κs = search needs
+
+checking-requires : tie.Need-checking-requires
+checking-requires c κs = search needs
+
+same-length : tie.Need-same-length
+same-length c = search needs
+
+returns : tie.Need-returns
+returns c = rw (c .checking .ensures, c .before .before .before .before .before .put .ensures .0, c .before .before .before .before .before .put .ensures .1)
+
+pub finish-spec : {M : Type 1} → statement M
+finish-spec = tie.close (tie.spec put-requires checking-requires same-length returns)
