@@ -1,6 +1,2 @@
 pub mod Receiver
 pub mod Step
-pub mod Output
-pub mod Line
-pub mod Frame
-pub mod Arrivals

@@ -1,50 +1,62 @@
 -- Only contracts of private functions cite this.
--- The decisions over the numbers and enums that the code has, the reply by its kind and a new name by its place in the frame: the steps that
--- lines and frames have in common.
+-- What a step of the code is in the definitions of `bin`: a move of the receiver, its record as the struct holds it, what it says by its kind
+-- and a new name by its place in the frame.
 use Prim.Native.Nat.{ℕ}
-use mathlib.Core.List.{List}
-use lib.ListN.{take}
-use lib.Dec.{eqb}
-use Rattle.fields.specs.Pick.{pick}
-use Rattle.fields.specs.Lists.{nowhere}
-use Rattle.fields.specs.declared.Place.{Place}
-use Rattle.crc.specs.Crc.{crcOf}
-use Rattle.calls.specs.declared.Outcome.{Outcome}
-use Rattle.calls.specs.declared.Outcome.the-variants.{Success, CheckFailed}
-use Rattle.calls.specs.declared.Entry.{Entry}
+use mathlib.Core.List.{List, [], _∷_}
+use Rattle.fields.specs.Lists.{bytesAt}
+use Rattle.fields.specs.Buffer.{appended}
+use Rattle.lines.specs.Frame.{stopFrame}
+use Rattle.lines.specs.Element.{ok, okName, okKept, no}
 use Rattle.calls.specs.declared.Keeping.{Keeping}
-use Rattle.calls.specs.declared.Keeping.the-variants.{Nothing, Of}
+use Rattle.calls.specs.Saving.{keepingOf, nameOf}
 use Rattle.bin.specs.declared.ReceiverState.{ReceiverState}
-use Rattle.bin.specs.declared.ReceiverState.the-variants.{Basic, Extended, Ended}
-use Rattle.bin_receiver.specs.declared.step.Out.{Out}
-use Rattle.bin_receiver.specs.declared.step.Out.the-variants.{Stop}
+use Rattle.bin.specs.Steps.{ReceiverSettings, ReceiverMove, says, formatText, roomText, haveText, differsText}
+use Rattle.bin_receiver.specs.declared.step.ReceiverCore.{ReceiverCore}
 use Rattle.bin_receiver.specs.declared.step.Step.{Step}
+use Rattle.bin_receiver.specs.declared.step.Out.{Out}
+use Rattle.bin_receiver.specs.declared.step.Out.the-variants.{Silent, Format, Room, Have, Differs, FirstOk, SecondOk, ThirdOk, Stop}
 
-abbrev pub stepTo : ReceiverState → Keeping → Out → ℕ → Place → Step
-stepTo st k out n name = record { state = st; keeping = k; out = out; stored = n; name = name }
+abbrev pub settingsBy : ReceiverCore → ReceiverSettings
+settingsBy c = record { room = c .room; resumes = c .resumes }
 
--- the name stays
-abbrev pub goesTo : ReceiverState → Keeping → Out → ℕ → Step
-goesTo st k out n = stepTo st k out n nowhere
+-- the frames that are said, with a name
+abbrev pub framesOf : List ℕ → Out → List (List ℕ)
+framesOf name Silent = []
+framesOf name Format = says (no formatText)
+framesOf name Room = says (no roomText)
+framesOf name Have = says (no haveText)
+framesOf name Differs = says (no differsText)
+framesOf name FirstOk = says ok
+framesOf name SecondOk = says (okName name)
+framesOf name (ThirdOk kept crc) = says (okKept name kept crc)
+framesOf name Stop = stopFrame ∷ []
 
-abbrev pub refusesAs : Keeping → Outcome → Out → Step
-refusesAs k o out = goesTo (Ended o) k out 0
-
--- a step, and the area that it leaves
-pub record Done : Type 0 where
-  pub step : Step
+-- what a move leaves: the record without its name, and the array with the name at its front
+pub record Reached : Type 0 where
+  pub state : ReceiverState
+  pub keeping : Keeping
+  pub name : List ℕ
   pub area : List ℕ
+  pub out : List (List ℕ)
+  pub stored : ℕ
 
-abbrev pub doneAs : Step → List ℕ → Done
-doneAs s a = record { step = s; area = a }
+abbrev pub reached : List ℕ → ReceiverMove → Reached
+reached name a = record {
+  state = a .state;
+  keeping = keepingOf (a .saved);
+  name = appended 0 (nameOf (a .saved)) name;
+  area = a .area;
+  out = a .out;
+  stored = a .stored;
+}
 
--- at the announced size it ends, and the whole CRC must agree
-unfoldable pub wholeStep : ℕ → Entry → Out → ℕ → Place → List ℕ → Step
-wholeStep crc e out n name a =
-    pick (eqb (e .kept) (e .size))
-    (pick (eqb (crcOf (take (e .size) a)) crc) (stepTo (Ended Success) (Of e) out n name)
-    (goesTo (Ended CheckFailed) Nothing Stop n))
-    (stepTo (Extended crc) (Of e) out n name)
-
-unfoldable pub basicStep : ℕ → ℕ → Keeping → Out → ℕ → Step
-basicStep size kept k out n = pick (eqb kept size) (goesTo (Ended Success) k out n) (goesTo (Basic size kept) k out n)
+-- what a step leaves, with the frame f and the area a
+abbrev pub reachedBy : List ℕ → List ℕ → Step → List ℕ → Reached
+reachedBy f name s a = record {
+  state = s .state;
+  keeping = s .keeping;
+  name = appended 0 (bytesAt f (s .name)) name;
+  area = a;
+  out = framesOf (bytesAt f (s .name)) (s .out);
+  stored = s .stored;
+}

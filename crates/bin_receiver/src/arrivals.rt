@@ -7,12 +7,16 @@ use crate::step::ReceiverCore;
 use crate::step::Step;
 use bin::ReceiverState;
 ghost use mathlib.Core.Path.{_≡_};
-ghost use Rattle.bin_receiver.specs.Step.{doneAs};
-ghost use Rattle.bin_receiver.specs.Arrivals.{stateStep, frameStep};
+ghost use lib.ListN.{length};
+ghost use Prim.Native.Nat.{_<_};
+ghost use Rattle.calls.specs.Saving.{savedBy, heldOf};
+ghost use Rattle.bin.specs.Steps.{receiverTakes};
+ghost use Rattle.bin_receiver.specs.Step.{settingsBy, reached, reachedBy};
 
 // A frame that is not empty.
 fn take_some(core: ReceiverCore, frame: &[u8], name: &[u8], area: &mut [u8]) -> Step
-    ensures { λ r. ⌜ stateStep core (core .state) (now (frame .entry)) (now (name .entry)) (now (area .entry)) ≡ doneAs r (now (area .exit)) ⌝ }
+    requires { ⌜ 0 < length (now frame) ⌝ }
+    ensures { λ r. ⌜ (heldOf (core .keeping) (now (name .entry)) ≡ core .keeping → reached (now (name .entry)) (receiverTakes (settingsBy core) (core .state) (savedBy (core .keeping) (now (name .entry))) (now (area .entry)) (now (frame .entry))) ≡ reachedBy (now (frame .entry)) (now (name .entry)) r (now (area .exit))) ⌝ }
 {
     let state = core.state;
     let keeping = core.keeping;
@@ -26,7 +30,7 @@ fn take_some(core: ReceiverCore, frame: &[u8], name: &[u8], area: &mut [u8]) -> 
 
 // A frame has come, to a receiver whose record is held; an empty one changes nothing.
 pub fn take(core: ReceiverCore, frame: &[u8], name: &[u8], area: &mut [u8]) -> Step
-    ensures { λ r. ⌜ frameStep core (now (frame .entry)) (now (name .entry)) (now (area .entry)) ≡ doneAs r (now (area .exit)) ⌝ }
+    ensures { λ r. ⌜ (heldOf (core .keeping) (now (name .entry)) ≡ core .keeping → reached (now (name .entry)) (receiverTakes (settingsBy core) (core .state) (savedBy (core .keeping) (now (name .entry))) (now (area .entry)) (now (frame .entry))) ≡ reachedBy (now (frame .entry)) (now (name .entry)) r (now (area .exit))) ⌝ }
 {
     if frame.len() == 0 {
         let state = core.state;

@@ -10,12 +10,16 @@ use calls::saving;
 use fields::Place;
 use fields::buffers;
 ghost use mathlib.Core.Path.{_≡_};
-ghost use Rattle.bin_receiver.specs.Step.{doneAs};
-ghost use Rattle.bin_receiver.specs.Frame.{entryFrame, extendedFrame, basicFrame, sortedStep};
+ghost use mathlib.Core.List.{List};
+ghost use lib.ListN.{length};
+ghost use Prim.Native.Nat.{ℕ, _<_};
+ghost use Rattle.calls.specs.Saving.{savedBy, heldOf};
+ghost use Rattle.bin.specs.Steps.{sorted, takesFrame, takesBasicFrame};
+ghost use Rattle.bin_receiver.specs.Step.{reached, reachedBy};
 
 // A frame of the file is stored directly behind the kept bytes, and is counted as kept in the same step.
 fn store(crc: u16, entry: Entry, frame: &[u8], area: &mut [u8]) -> Step
-    ensures { λ r. ⌜ entryFrame crc entry (now (frame .entry)) (now (area .entry)) ≡ doneAs r (now (area .exit)) ⌝ }
+    ensures { λ r. ⌜ ((name : List ℕ) → heldOf (Keeping.Of entry) name ≡ Keeping.Of entry → reached name (takesFrame crc (savedBy (Keeping.Of entry) name) (now (area .entry)) (now (frame .entry))) ≡ reachedBy (now (frame .entry)) name r (now (area .exit))) ⌝ }
 {
     let stamp = entry.stamp;
     let from = entry.kept;
@@ -36,7 +40,8 @@ fn store(crc: u16, entry: Entry, frame: &[u8], area: &mut [u8]) -> Step
 }
 
 fn store_kept(crc: u16, keeping: Keeping, frame: &[u8], area: &mut [u8]) -> Step
-    ensures { λ r. ⌜ extendedFrame crc keeping (now (frame .entry)) (now (area .entry)) ≡ doneAs r (now (area .exit)) ⌝ }
+    requires { ⌜ 0 < length (now frame) ⌝ }
+    ensures { λ r. ⌜ ((name : List ℕ) → heldOf keeping name ≡ keeping → reached name (takesFrame crc (savedBy keeping name) (now (area .entry)) (now (frame .entry))) ≡ reachedBy (now (frame .entry)) name r (now (area .exit))) ⌝ }
 {
     match keeping {
         Keeping::Nothing => step::end(Outcome::PastSize, Keeping::Nothing, Out::Stop, 0),
@@ -46,7 +51,7 @@ fn store_kept(crc: u16, keeping: Keeping, frame: &[u8], area: &mut [u8]) -> Step
 
 // The same in a basic transfer.
 fn store_basic(size: u32, kept: u32, keeping: Keeping, frame: &[u8], area: &mut [u8]) -> Step
-    ensures { λ r. ⌜ basicFrame size kept keeping (now (frame .entry)) (now (area .entry)) ≡ doneAs r (now (area .exit)) ⌝ }
+    ensures { λ r. ⌜ ((name : List ℕ) → heldOf keeping name ≡ keeping → reached name (takesBasicFrame size kept (savedBy keeping name) (now (area .entry)) (now (frame .entry))) ≡ reachedBy (now (frame .entry)) name r (now (area .exit))) ⌝ }
 {
     let n = frame.len();
     if saving::fits(kept, n, size) {
@@ -58,7 +63,8 @@ fn store_basic(size: u32, kept: u32, keeping: Keeping, frame: &[u8], area: &mut 
 
 // A frame of an extended transfer that was accepted.
 pub fn take_extended(crc: u16, keeping: Keeping, frame: &[u8], area: &mut [u8]) -> Step
-    ensures { λ r. ⌜ sortedStep (ReceiverState.Extended crc) keeping (now (frame .entry)) (now (area .entry)) (extendedFrame crc keeping (now (frame .entry)) (now (area .entry))) ≡ doneAs r (now (area .exit)) ⌝ }
+    requires { ⌜ 0 < length (now frame) ⌝ }
+    ensures { λ r. ⌜ ((name : List ℕ) → heldOf keeping name ≡ keeping → reached name (sorted (ReceiverState.Extended crc) (savedBy keeping name) (now (area .entry)) (now (frame .entry)) (takesFrame crc (savedBy keeping name) (now (area .entry)) (now (frame .entry)))) ≡ reachedBy (now (frame .entry)) name r (now (area .exit))) ⌝ }
 {
     if lines::is_display(frame) {
         return step::go(ReceiverState::Extended { crc }, keeping, Out::Silent, 0);
@@ -71,7 +77,7 @@ pub fn take_extended(crc: u16, keeping: Keeping, frame: &[u8], area: &mut [u8]) 
 
 // The same in a basic transfer.
 pub fn take_basic(size: u32, kept: u32, keeping: Keeping, frame: &[u8], area: &mut [u8]) -> Step
-    ensures { λ r. ⌜ sortedStep (ReceiverState.Basic size kept) keeping (now (frame .entry)) (now (area .entry)) (basicFrame size kept keeping (now (frame .entry)) (now (area .entry))) ≡ doneAs r (now (area .exit)) ⌝ }
+    ensures { λ r. ⌜ ((name : List ℕ) → heldOf keeping name ≡ keeping → reached name (sorted (ReceiverState.Basic size kept) (savedBy keeping name) (now (area .entry)) (now (frame .entry)) (takesBasicFrame size kept (savedBy keeping name) (now (area .entry)) (now (frame .entry)))) ≡ reachedBy (now (frame .entry)) name r (now (area .exit))) ⌝ }
 {
     if lines::is_display(frame) {
         return step::go(ReceiverState::Basic { size, kept }, keeping, Out::Silent, 0);

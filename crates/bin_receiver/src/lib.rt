@@ -22,9 +22,9 @@ ghost use lib.ListN.{length};
 ghost use Prim.Native.Nat.{ℕ, _≤_};
 ghost use Rattle.records.specs.Saved.{savedOf};
 ghost use Rattle.calls.specs.Recording.{recordAnswer, recordLeft};
-ghost use Rattle.bin_receiver.specs.Receiver.{fresh as freshOf, receiverWith, withSaved, resume as resumeOf, refusedCall, transmit as transmitOf, receive as receiveOf, fails, timeout as timeoutOf, cancel as cancelOf, recordBy};
-ghost use Rattle.bin_receiver.specs.Step.{doneAs};
-ghost use Rattle.bin_receiver.specs.Output.{repliedBy};
+ghost use Rattle.bin_receiver.specs.Receiver.{fresh as freshOf, receiverWith, withSaved, resume as resumeOf, refusedCall, replied, transmit as transmitOf, receive as receiveOf, fails, timeout as timeoutOf, cancel as cancelOf, recordBy};
+ghost use Rattle.bin.specs.Steps.{ReceiverMove};
+ghost use Rattle.bin_receiver.specs.Step.{reached, reachedBy};
 
 mod arrivals;
 mod check;
@@ -143,7 +143,7 @@ impl Receiver {
     // Keeps the name, which stands in the frame where it is new, says what is to be said, and answers.
     fn finish(self, shown: Place, step: Step, frame: &[u8], reply: &mut [u8]) -> ReceiverAnswer
         requires { ⌜ 259 ≤ length (now reply) ⌝ }
-        ensures { λ r. ⌜ ((a : List ℕ) → repliedBy self shown (now (frame .entry)) (now (reply .entry)) (doneAs step a) ≡ record { answer = r; area = a; reply = now (reply .exit) }) ⌝ }
+        ensures { λ r. ⌜ ((v : ReceiverMove) (a : List ℕ) → reached (self .name) v ≡ reachedBy (now (frame .entry)) (self .name) step a → replied self shown v (now (reply .entry)) ≡ record { answer = r; area = a; reply = now (reply .exit) }) ⌝ }
     {
         let out = step.out;
         let place = step.name;

@@ -8,7 +8,7 @@ ghost use Prim.Native.Nat.{_≤_};
 ghost use Rattle.fields.specs.Buffer.{over};
 ghost use Rattle.lines.specs.Element.{no};
 ghost use Rattle.bin.specs.Steps.{joined, says};
-ghost use Rattle.bin_receiver.specs.Output.{framesOf};
+ghost use Rattle.bin_receiver.specs.Step.{framesOf};
 
 fn put_no(reply: &mut [u8], text: &[u8]) -> usize
     requires { ⌜ 259 ≤ length (now reply) ⌝ }

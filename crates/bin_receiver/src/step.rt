@@ -5,7 +5,15 @@ use calls::Keeping;
 use calls::Outcome;
 use fields::Place;
 ghost use mathlib.Core.Path.{_≡_};
-ghost use Rattle.bin_receiver.specs.Step.{goesTo, wholeStep, basicStep};
+ghost use mathlib.Core.List.{List, []};
+ghost use mathlib.Core.Option.{some};
+ghost use lib.ListN.{length};
+ghost use Prim.Native.Nat.{ℕ};
+ghost use Rattle.fields.specs.Lists.{bytesAt};
+ghost use Rattle.fields.specs.Buffer.{appended};
+ghost use Rattle.calls.specs.Saving.{savedBy, heldOf};
+ghost use Rattle.bin.specs.Steps.{answers, judgeWhole, basicAt};
+ghost use Rattle.bin_receiver.specs.Step.{framesOf, reached, reachedBy};
 
 // A receiver but for the bytes of its record's name.
 pub struct ReceiverCore {
@@ -44,9 +52,9 @@ pub struct Step {
     pub name: Place,
 }
 
-// The name stays.
+// The record stays, as it is held.
 pub fn go(state: ReceiverState, keeping: Keeping, out: Out, stored: usize) -> Step
-    ensures { λ r. ⌜ r ≡ goesTo state keeping out stored ⌝ }
+    ensures { λ r. ⌜ ((f name a : List ℕ) → heldOf keeping name ≡ keeping → reached name (answers state (savedBy keeping name) a (framesOf [] out) stored) ≡ reachedBy f name r a) ⌝ }
 {
     let name = Place { start: 0, len: 0 };
     Step {
@@ -59,12 +67,12 @@ pub fn go(state: ReceiverState, keeping: Keeping, out: Out, stored: usize) -> St
 }
 
 pub fn end(outcome: Outcome, keeping: Keeping, out: Out, stored: usize) -> Step
-    ensures { λ r. ⌜ r ≡ goesTo (ReceiverState.Ended outcome) keeping out stored ⌝ }
+    ensures { λ r. ⌜ ((f name a : List ℕ) → heldOf keeping name ≡ keeping → reached name (answers (ReceiverState.Ended outcome) (savedBy keeping name) a (framesOf [] out) stored) ≡ reachedBy f name r a) ⌝ }
 {
     go(ReceiverState::Ended { outcome }, keeping, out, stored)
 }
 
-// At the announced size it ends, and the whole CRC must agree.
+// At the announced size it ends, and the whole CRC must agree. The record's name is the one that stands in the array afterwards.
 pub fn judge_whole(
     crc: u16,
     entry: Entry,
@@ -73,7 +81,7 @@ pub fn judge_whole(
     name: Place,
     area: &[u8],
 ) -> Step
-    ensures { λ r. ⌜ r ≡ wholeStep crc entry out stored name (now (area .entry)) ⌝ }
+    ensures { λ r. ⌜ ((f own n : List ℕ) → length n ≡ entry .named → appended 0 n own ≡ appended 0 (bytesAt f name) own → reached own (judgeWhole crc (some (record { size = entry .size; kept = entry .kept; stamp = entry .stamp; name = n })) (now (area .entry)) (framesOf (bytesAt f name) out) stored) ≡ reachedBy f own r (now (area .entry))) ⌝ }
 {
     if entry.kept == entry.size {
         let size = entry.size as usize;
@@ -102,7 +110,7 @@ pub fn judge_whole(
 
 // At the announced size a basic transfer ends.
 pub fn basic_at(size: u32, kept: u32, keeping: Keeping, out: Out, stored: usize) -> Step
-    ensures { λ r. ⌜ r ≡ basicStep size kept keeping out stored ⌝ }
+    ensures { λ r. ⌜ ((f name a : List ℕ) → heldOf keeping name ≡ keeping → reached name (basicAt size kept (savedBy keeping name) a (framesOf [] out) stored) ≡ reachedBy f name r a) ⌝ }
 {
     if kept == size {
         return end(Outcome::Success, keeping, out, stored);

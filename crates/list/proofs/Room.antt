@@ -3,10 +3,9 @@ use mathlib.Core.Path.{_≡_, refl, sym}
 use mathlib.Core.List.{List}
 use mathlib.Core.Logic.{⊎-elim}
 use Prim.Native.Nat.{ℕ, _+_, _≤_, _<_}
-use native.Mathlib.Omega.{arith}
 use lib.ListN.{length}
 use Rattle.fields.proofs.Lists.{le-or-lt}
-use Rattle.fields.specs.Buffer.{over, appended, appendedEnd}
+use Rattle.fields.specs.Buffer.{appended, appendedEnd}
 use Rattle.fields.proofs.Buffer.{length-over, append-fits, append-short}
 
 pub append-within : (at : ℕ) (bs d : List ℕ) → at ≤ length d

@@ -10,10 +10,7 @@ use lib.Seq.{take-at}
 use Rattle.fields.specs.Buffer.{over}
 use Rattle.packets.specs.declared.spans.Span.{Span}
 use Rattle.packets.specs.declared.spans.Span.the-variants.{Open, Whole, Drop}
-use Rattle.packets.specs.declared.Packet.{Packet}
-use Rattle.packets.specs.declared.Packet.the-variants.{RR, RF, AF, AT, CA, RT, SI, RI, HD, Malformed, DT, EF, ET, NR, RE, CN, TX, Dropped, Open as Unfinished}
 use Rattle.packets.specs.Span.{sizeOf}
-use Rattle.packets.specs.Content.{contentOf}
 use Rattle.packets.proofs.KindLaws.{kind-same}
 use Rattle.packets.proofs.spans.Laws.{at-none}
 use Rattle.packet_stream.specs.declared.Received.{Received}

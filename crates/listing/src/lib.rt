@@ -76,6 +76,7 @@ impl Lister {
         let packet = got.packet;
         let written = put_found(out, self.offset, found, packet);
         let offset = advance(self.offset, found);
+        // Read behind the calls: before them it would be copied once more.
         let reader = got.reader;
         Listed {
             lister: Lister { reader, offset },

@@ -35,8 +35,7 @@ same-length c = search needs
 returns : tie.Need-returns
 returns c =
     let g = c .before .before .before .before .before .before .before .before .before .before .before .before .before .before .before .args in
-    fails-taken (g .self) (now (g .area)) (now (g .reply)) (g .outcome) _ _ (taken-by (c .before .before .before .before .before .before .before .before .before .before .before .check .ensures) (c .before .before .before .before .before .before .before .before .before .before .is-taken .ensures) (c .before .before .before .before .before .before .before .before .before .if1 .taken)) (c .before .before .before .before .before .before .held .ensures) (c .before .before .before .before .before .end .ensures)
-    ∙ c .before .before .finish .ensures _
+    fails-taken (g .self) (now (g .area)) (now (g .reply)) (g .outcome) _ (c .before .before .before .before .before .end .result) _ (taken-by (c .before .before .before .before .before .before .before .before .before .before .before .check .ensures) (c .before .before .before .before .before .before .before .before .before .before .is-taken .ensures) (c .before .before .before .before .before .before .before .before .before .if1 .taken)) (c .before .before .before .before .before .before .held .ensures) (c .before .before .before .before .before .end .ensures _ (g .self .name) (now (g .area))) (λ v. c .before .before .finish .ensures v (now (g .area)))
 
 unchanged-requires : tie.Need-unchanged-requires
 unchanged-requires c κs = search needs

@@ -1,4 +1,7 @@
 -- `finish` keeps the name, writes the reply and answers. Assumes nothing.
+use mathlib.Core.Path.{_∙_}
+use denote.Ref.{now}
+use Rattle.bin_receiver.proofs.Calls.{after-is}
 use borrow.Author.Needs.{needs}
 use Rattle.bin_receiver.proofs.Receiver.finish.Statement.{statement}
 use Rattle.bin_receiver.proofs.Receiver.finish.Tie as tie
@@ -19,8 +22,10 @@ same-length : tie.Need-same-length
 same-length c = search needs
 
 returns : tie.Need-returns
-returns c =
-    λ a. rw (c .before .before .before .before .before .append-bytes .ensures .1, c .before .before .put .ensures .0, c .before .before .put .ensures .1, c .before .before .before .before .before .before .before .before .bytes-at .ensures)
+returns c v a h =
+    let g = c .before .before .before .before .before .before .before .before .before .before .before .before .args in
+    after-is (g .self) (g .shown) (now (g .reply)) v (now (g .frame)) (g .step) a h
+    ∙ rw (c .before .before .before .before .before .append-bytes .ensures .1, c .before .before .put .ensures .0, c .before .before .put .ensures .1, c .before .before .before .before .before .before .before .before .bytes-at .ensures)
 
 pub finish-spec : {M : Type 1} → statement M
 finish-spec =

@@ -38,8 +38,7 @@ same-length-2 c = search needs
 returns : tie.Need-returns
 returns c =
     let g = c .before .before .before .before .before .before .before .before .before .before .before .before .before .before .before .before .before .before .before .args in
-    receive-taken (g .self) (now (g .area)) (now (g .reply)) (now (g .frame)) _ _ _ _ (taken-by (c .before .before .before .before .before .before .before .before .before .before .before .before .before .before .check .ensures) (c .before .before .before .before .before .before .before .before .before .before .before .before .before .is-taken .ensures) (c .before .before .before .before .before .before .before .before .before .before .before .before .if1 .taken)) (c .before .before .before .before .before .before .before .before .before .held .ensures) (c .before .before .before .before .before .before .before .take .ensures) (c .before .before .before .before .shown-in .ensures)
-    ∙ c .before .before .finish .ensures _
+    receive-taken (g .self) (now (g .area)) (now (g .reply)) (now (g .frame)) _ (c .before .before .before .before .before .before .before .take .result) _ _ _ (taken-by (c .before .before .before .before .before .before .before .before .before .before .before .before .before .before .check .ensures) (c .before .before .before .before .before .before .before .before .before .before .before .before .before .is-taken .ensures) (c .before .before .before .before .before .before .before .before .before .before .before .before .if1 .taken)) (c .before .before .before .before .before .before .before .before .before .held .ensures) (c .before .before .before .before .before .before .before .take .ensures) (c .before .before .before .before .shown-in .ensures) (λ v. c .before .before .finish .ensures v _)
 
 unchanged-requires : tie.Need-unchanged-requires
 unchanged-requires c κs = search needs

@@ -1,10 +1,14 @@
 -- `hear` goes by what the frame says. Assumes nothing.
+use mathlib.Core.Path.{ap, _∙_}
+use denote.Ref.{now}
+use Rattle.lines.specs.Element.{contentOf}
+use Rattle.calls.specs.Saving.{savedBy}
+use Rattle.bin.specs.Steps.{receiverHears}
+use Rattle.bin_receiver.specs.Step.{settingsBy, reached}
+use Rattle.bin_receiver.proofs.line.Laws.{hears-as, hears-other}
 use borrow.Author.Needs.{needs}
 use Rattle.bin_receiver.proofs.line.hear.Statement.{statement}
 use Rattle.bin_receiver.proofs.line.hear.Tie as tie
-
-go-requires : tie.Need-go-requires
-go-requires c κs = search needs
 
 frame-of-requires : tie.Need-frame-of-requires
 frame-of-requires c κs = search needs
@@ -27,68 +31,40 @@ enum-told c = search needs
 end-requires : tie.Need-end-requires
 end-requires c κs = search needs
 
-enum-told-2 : tie.Need-enum-told-2
-enum-told-2 c = search needs
-
-enum-told-3 : tie.Need-enum-told-3
-enum-told-3 c = search needs
-
-enum-told-4 : tie.Need-enum-told-4
-enum-told-4 c = search needs
-
-enum-told-5 : tie.Need-enum-told-5
-enum-told-5 c = search needs
-
-enum-told-6 : tie.Need-enum-told-6
-enum-told-6 c = search needs
-
-enum-told-7 : tie.Need-enum-told-7
-enum-told-7 c = search needs
-
-enum-told-8 : tie.Need-enum-told-8
-enum-told-8 c = search needs
-
-enum-told-9 : tie.Need-enum-told-9
-enum-told-9 c = search needs
+go-requires : tie.Need-go-requires
+go-requires c κs = search needs
 
 returns : tie.Need-returns
-returns c = rw (← c .before .before .before .before .frame-of .ensures, c .before .before .size .given .1) (c .judge-basic .ensures)
+unfolding receiverHears contentOf
+returns c h =
+    let g = c .before .before .before .before .before .before .before .before .args in
+    ap (reached (now (g .name))) (hears-as (settingsBy (g .core)) (now (g .area)) (savedBy (g .core .keeping) (now (g .name))) (now (g .frame)) _ (c .before .before .before .before .frame-of .ensures) _ (c .before .before .size .given .1))
+    ∙ c .judge-basic .ensures (now (g .frame)) (now (g .name)) (now (g .area)) h
 
 returns-2 : tie.Need-returns-2
-returns-2 c = rw (← c .before .before .before .before .frame-of .ensures, c .before .before .line .given .1) (c .judge-extended .ensures)
+unfolding receiverHears contentOf
+returns-2 c h =
+    let g = c .before .before .before .before .before .before .before .before .args in
+    ap (reached (now (g .name))) (hears-as (settingsBy (g .core)) (now (g .area)) (savedBy (g .core .keeping) (now (g .name))) (now (g .frame)) _ (c .before .before .before .before .frame-of .ensures) _ (c .before .before .line .given .1))
+    ∙ c .judge-extended .ensures h
 
 returns-3 : tie.Need-returns-3
-returns-3 c = rw (← c .before .before .before .frame-of .ensures, c .before .enum-told .given .1) (c .end .ensures)
+unfolding receiverHears contentOf
+returns-3 c h =
+    let g = c .before .before .before .before .before .before .before .args in
+    ap (reached (now (g .name))) (hears-as (settingsBy (g .core)) (now (g .area)) (savedBy (g .core .keeping) (now (g .name))) (now (g .frame)) _ (c .before .before .before .frame-of .ensures) _ (c .before .enum-told .given .1))
+    ∙ c .end .ensures (now (g .frame)) (now (g .name)) (now (g .area)) h
 
 returns-4 : tie.Need-returns-4
-returns-4 c = rw (← c .before .before .frame-of .ensures, c .enum-told2 .given .1) (c .before .before .before .go .ensures)
-
-returns-5 : tie.Need-returns-5
-returns-5 c = rw (← c .before .before .frame-of .ensures, c .enum-told3 .given .1) (c .before .before .before .go .ensures)
-
-returns-6 : tie.Need-returns-6
-returns-6 c = rw (← c .before .before .frame-of .ensures, c .enum-told4 .given .1) (c .before .before .before .go .ensures)
-
-returns-7 : tie.Need-returns-7
-returns-7 c = rw (← c .before .before .frame-of .ensures, c .enum-told5 .given .1) (c .before .before .before .go .ensures)
-
-returns-8 : tie.Need-returns-8
-returns-8 c = rw (← c .before .before .frame-of .ensures, c .enum-told6 .given .1) (c .before .before .before .go .ensures)
-
-returns-9 : tie.Need-returns-9
-returns-9 c = rw (← c .before .before .frame-of .ensures, c .enum-told7 .given .1) (c .before .before .before .go .ensures)
-
-returns-10 : tie.Need-returns-10
-returns-10 c = rw (← c .before .before .frame-of .ensures, c .enum-told8 .given .1) (c .before .before .before .go .ensures)
-
-returns-11 : tie.Need-returns-11
-returns-11 c = rw (← c .before .before .frame-of .ensures, c .enum-told9 .given .1) (c .before .before .before .go .ensures)
+returns-4 c h =
+    let g = c .before .before .before .before .before .before .args in
+    ap (reached (now (g .name))) (hears-other (settingsBy (g .core)) (now (g .area)) (savedBy (g .core .keeping) (now (g .name))) (now (g .frame)) _ (c .before .before .frame-of .ensures) (c .before .match .keys4))
+    ∙ c .go .ensures (now (g .frame)) (now (g .name)) (now (g .area)) h
 
 pub hear-spec : {M : Type 1} → statement M
 hear-spec =
     tie.close
     (tie.spec
-    go-requires
     frame-of-requires
     enum-known-size
     judge-basic-requires
@@ -96,22 +72,8 @@ hear-spec =
     judge-extended-requires
     enum-told
     end-requires
-    enum-told-2
-    enum-told-3
-    enum-told-4
-    enum-told-5
-    enum-told-6
-    enum-told-7
-    enum-told-8
-    enum-told-9
+    go-requires
     returns
     returns-2
     returns-3
-    returns-4
-    returns-5
-    returns-6
-    returns-7
-    returns-8
-    returns-9
-    returns-10
-    returns-11)
+    returns-4)

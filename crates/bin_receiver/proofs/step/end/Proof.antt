@@ -7,7 +7,11 @@ go-requires : tie.Need-go-requires
 go-requires c κs = search needs
 
 returns : tie.Need-returns
-returns c = search needs
+returns c = c .go .ensures
 
 pub end-spec : {M : Type 1} → statement M
-end-spec = tie.close (tie.spec go-requires returns)
+end-spec =
+    tie.close
+    (tie.spec
+    go-requires
+    returns)
