@@ -57,8 +57,8 @@ use Rattle.transfers.proofs.Examples as worked
 -- ---- DEMAND 3 (crates/transfers). Of every file, name and area within document 01's limits (World) and every list of sessions, each by YAPP or
 -- extended #BIN#, each a list of calls of any kind at its two ends over a link that keeps bytes and their order (FairIn, FairAll):
 
--- after every call the kept bytes are the file's beginning, as many as came less each fall at RE, the record says how many, and every other byte
--- of the area is as before the first session (Safe)
+-- after every call the kept bytes are the file's beginning, as many as came less each fall at RE, and the record says how many; every byte past the
+-- file's length is as before the first session, and no byte changes but to the file's own, where it came (Safe)
 pub safety : (w : World) (ss : List Session) → FairAll w ss (first w) → Safe w (after w ss (first w))
 safety w = demand.safety w
 
