@@ -5,7 +5,7 @@ use fields::Written;
 ghost use mathlib.Core.Path.{_≡_};
 ghost use Rattle.calls.specs.Numbers.{statusNumber};
 ghost use Rattle.calls.specs.Checks.{checkOf, checkNumber, isTaken};
-ghost use Rattle.calls.specs.Count.{countOf};
+ghost use Rattle.calls.specs.Count.{countOf, recordCount};
 
 pub mod outcomes;
 pub mod saving;
@@ -126,5 +126,15 @@ pub fn count(written: Written) -> usize
         Written::Bytes(n) => n,
         Written::Small => 0,
         Written::Formless => 0,
+    }
+}
+
+// The same of a record; none where there is none.
+pub fn record_count(answer: RecordAnswer) -> usize
+    ensures { λ r. ⌜ r ≡ recordCount answer ⌝ }
+{
+    match answer {
+        RecordAnswer::NoRecord => 0,
+        RecordAnswer::Record(written) => count(written),
     }
 }

@@ -1,5 +1,6 @@
 // A #BIN# sender and a #BIN# receiver, and the link between them: what came of a frame that is cut is handed over as a frame.
 use crate::link;
+use crate::link::Link;
 use crate::link::Saved;
 use bin::ReceiverState;
 use bin::SenderState;
@@ -8,38 +9,35 @@ use bin_receiver::ReceiverAnswer;
 use bin_sender::Sender;
 use bin_sender::SenderAnswer;
 use script::printing::put_text;
+ghost use mathlib.Core.Path.{_≡_};
+ghost use Rattle.bin_receiver.specs.Receiver.{receive as receiveOf};
+ghost use Rattle.run_cuts.specs.BinLink.{receiverOf, begin as beginOf, send as sendOf, turn as turnOf, isSent, isReceived, savedAfter, session as sessionOf};
 
-fn is_sent(state: SenderState) -> bool {
-    match state {
-        SenderState::Ended { outcome } => link::is_success(outcome),
-        _ => false,
-    }
+// What stands between two turns.
+struct Ends {
+    sender: Sender,
+    receiver: Receiver,
+    link: Link,
 }
 
-fn is_received(state: ReceiverState) -> bool {
-    match state {
-        ReceiverState::Ended { outcome } => link::is_success(outcome),
-        _ => false,
-    }
-}
-
-fn left_by(sender: Sender, receiver: Receiver, area: [u8; 320]) -> Saved {
-    let mut bytes = [0u8; 81];
-    let got = receiver.record(&mut bytes);
-    Saved {
-        area,
-        bytes,
-        len: link::count(got),
-        success: link::both(is_sent(sender.state()), is_received(receiver.state())),
-    }
-}
-
-fn receiver_of(s: Saved) -> Receiver {
+fn receiver_of(s: Saved) -> Receiver
+    ensures { λ r. ⌜ r ≡ receiverOf s ⌝ }
+{
     let bytes = s.bytes;
     if s.len == 0 {
         return Receiver::fresh(320, true);
     }
     Receiver::resume(fields::part(&bytes, 0, s.len), 320, true)
+}
+
+fn begin(before: Saved, bytes: usize, block: usize, size: usize) -> Ends
+    ensures { λ r. ⌜ r ≡ beginOf before bytes block size ⌝ }
+{
+    Ends {
+        sender: Sender::begin(b"abc.txt", size, block, 0x5A21_4800, true),
+        receiver: receiver_of(before),
+        link: link::begin(before, bytes),
+    }
 }
 
 // A frame of the file; what is sent in the first turn is the line.
@@ -51,57 +49,100 @@ fn put_frame(is_shown: bool, turn: usize, frame: &[u8]) {
     }
 }
 
-// The receiver gets the frame, or what came of it.
-fn take(m: Receiver, frame: &[u8], area: &mut [u8; 320], out: &mut [u8; 259]) -> ReceiverAnswer {
-    m.receive(frame, area, out)
-}
-
-fn passed(to: &[u8; 259], sent: usize, left: usize) -> &[u8] {
-    fields::part(to, 0, link::least(sent, left))
-}
-
 // The sender gets what came of the answer; where nothing was answered, it may send.
-fn send(
-    m: Sender,
-    answered: usize,
-    heard: &[u8],
-    file: &[u8],
-    out: &mut [u8; 259],
-) -> SenderAnswer {
+fn send(m: Sender, answered: usize, heard: &[u8], file: &[u8], out: &mut [u8; 259]) -> SenderAnswer
+    ensures { λ r. ⌜ sendOf m answered (now (heard .entry)) (now (file .entry)) (now (out .entry)) ≡ record { answer = r; reply = now (out .exit) } ⌝ }
+{
     if answered == 0 {
         return m.transmit(file, out);
     }
     m.receive(heard, file, out)
 }
 
+// The receiver gets the frame, or what came of it.
+fn take(m: Receiver, frame: &[u8], area: &mut [u8; 320], out: &mut [u8; 259]) -> ReceiverAnswer
+    ensures { λ r. ⌜ receiveOf m (now (frame .entry)) (now (area .entry)) (now (out .entry)) ≡ record { answer = r; area = now (area .exit); reply = now (out .exit) } ⌝ }
+{
+    m.receive(frame, area, out)
+}
+
+// The turn of this number, from 0 on.
+fn turn(e: Ends, is_shown: bool, number: usize, file: &[u8]) -> Ends
+    ensures { λ r. ⌜ r ≡ turnOf (now (file .entry)) e ⌝ }
+{
+    let l = e.link;
+    let mut area = l.area;
+    let mut to = l.to;
+    let mut back = l.back;
+    let heard = link::passed(&back, l.answered, l.left);
+    let a = send(e.sender, l.answered, heard, file, &mut to);
+    let left = link::less(l.left, l.answered);
+    let frame = link::passed(&to, a.sent, left);
+    put_frame(is_shown, number, frame);
+    let b = take(e.receiver, frame, &mut area, &mut back);
+    let sender = a.sender;
+    let receiver = b.receiver;
+    let rest = link::less(left, a.sent);
+    Ends {
+        sender,
+        receiver,
+        link: Link {
+            area,
+            to,
+            back,
+            answered: b.sent,
+            left: rest,
+        },
+    }
+}
+
+fn is_sent(state: SenderState) -> bool
+    ensures { λ r. ⌜ r ≡ isSent state ⌝ }
+{
+    match state {
+        SenderState::Start => false,
+        SenderState::Wait => false,
+        SenderState::Send { .. } => false,
+        SenderState::Ended { outcome } => link::is_success(outcome),
+    }
+}
+
+fn is_received(state: ReceiverState) -> bool
+    ensures { λ r. ⌜ r ≡ isReceived state ⌝ }
+{
+    match state {
+        ReceiverState::Waiting => false,
+        ReceiverState::Basic { .. } => false,
+        ReceiverState::Extended { .. } => false,
+        ReceiverState::Ended { outcome } => link::is_success(outcome),
+    }
+}
+
+fn left_by(e: Ends) -> Saved
+    ensures { λ r. ⌜ r ≡ savedAfter e ⌝ }
+{
+    let l = e.link;
+    let area = l.area;
+    let mut bytes = [0u8; 81];
+    let got = e.receiver.record(&mut bytes);
+    Saved {
+        area,
+        bytes,
+        len: calls::record_count(got),
+        success: link::both(is_sent(e.sender.state()), is_received(e.receiver.state())),
+    }
+}
+
 // Goes on from what a session left, with frames of so many bytes. So many bytes pass before the link breaks.
 // The line, a turn to hear what came of it, and a turn for each frame: a file has at most 27 bytes.
-pub fn session(before: Saved, bytes: usize, block: usize, is_shown: bool, file: &[u8]) -> Saved {
-    let mut sender = Sender::begin(b"abc.txt", file.len(), block, 0x5A21_4800, true);
-    let mut receiver = receiver_of(before);
-    let mut area = before.area;
-    let mut to = [0u8; 259];
-    let mut back = [0u8; 259];
-    let mut answered = 0;
-    let mut left = bytes;
-    let mut turn: usize = 0;
-    while turn < 29 {
-        let a = send(
-            sender,
-            answered,
-            passed(&back, answered, left),
-            file,
-            &mut to,
-        );
-        sender = a.sender;
-        left = link::less(left, answered);
-        let frame = passed(&to, a.sent, left);
-        put_frame(is_shown, turn, frame);
-        let b = take(receiver, frame, &mut area, &mut back);
-        receiver = b.receiver;
-        answered = b.sent;
-        left = link::less(left, a.sent);
-        turn += 1;
+pub fn session(before: Saved, bytes: usize, block: usize, is_shown: bool, file: &[u8]) -> Saved
+    ensures { λ r. ⌜ r ≡ sessionOf before bytes block (now (file .entry)) ⌝ }
+{
+    let mut e = begin(before, bytes, block, file.len());
+    let mut i: usize = 0;
+    while i < 29 {
+        e = turn(e, is_shown, i, file);
+        i += 1;
     }
-    left_by(sender, receiver, area)
+    left_by(e)
 }

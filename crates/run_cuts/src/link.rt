@@ -1,11 +1,15 @@
 // What a session over a link that breaks leaves, and what is asked of it.
 use calls::Outcome;
-use calls::RecordAnswer;
+use calls::outcomes;
 use fields::buffers;
 use fields::names;
 use numbers::Number;
 use numbers::little_reader;
-ghost use Prim.Native.Nat.{_≤_};
+ghost use mathlib.Core.Path.{_≡_};
+ghost use mathlib.Core.Bool.{_&&_};
+ghost use Prim.Native.Nat.{_≤_, _-_, min};
+ghost use Rattle.records.specs.Record.{numberAt};
+ghost use Rattle.run_cuts.specs.Link.{begin as beginOf, nothing as nothingOf, isSuccess, passed as passedOf, kept as keptOf, holds as holdsOf, isOfFile, isSound, isWhole};
 
 // The area, the record's bytes, none where there is none, and whether both ends ended with success.
 pub struct Saved {
@@ -15,8 +19,36 @@ pub struct Saved {
     pub success: bool,
 }
 
+// What stands on the link between two turns, and what it brought.
+pub struct Link {
+    pub area: [u8; 320],
+    // What the sender sent last, and what the receiver answered last: the first bytes.
+    pub to: [u8; 259],
+    pub back: [u8; 259],
+    // How many bytes of back are an answer that is still to go over the link.
+    pub answered: usize,
+    // How many bytes pass before the link breaks.
+    pub left: usize,
+}
+
+// Before the first turn of a session.
+pub fn begin(before: Saved, bytes: usize) -> Link
+    ensures { λ r. ⌜ r ≡ beginOf before bytes ⌝ }
+{
+    let area = before.area;
+    Link {
+        area,
+        to: [0; 259],
+        back: [0; 259],
+        answered: 0,
+        left: bytes,
+    }
+}
+
 // Before the first session.
-pub fn nothing() -> Saved {
+pub fn nothing() -> Saved
+    ensures { λ r. ⌜ r ≡ nothingOf ⌝ }
+{
     Saved {
         area: [0xEE; 320],
         bytes: [0; 81],
@@ -25,21 +57,15 @@ pub fn nothing() -> Saved {
     }
 }
 
-pub fn count(got: RecordAnswer) -> usize {
-    match got {
-        RecordAnswer::NoRecord => 0,
-        RecordAnswer::Record(written) => calls::count(written),
-    }
+pub fn is_success(outcome: Outcome) -> bool
+    ensures { λ r. ⌜ r ≡ isSuccess outcome ⌝ }
+{
+    outcomes::outcome_number(outcome) == 0
 }
 
-pub fn is_success(outcome: Outcome) -> bool {
-    match outcome {
-        Outcome::Success => true,
-        _ => false,
-    }
-}
-
-pub fn both(a: bool, b: bool) -> bool {
+pub fn both(a: bool, b: bool) -> bool
+    ensures { λ r. ⌜ r ≡ a && b ⌝ }
+{
     if a {
         return b;
     }
@@ -47,7 +73,9 @@ pub fn both(a: bool, b: bool) -> bool {
 }
 
 // How many of the bytes that are sent pass.
-pub fn least(sent: usize, left: usize) -> usize {
+pub fn least(sent: usize, left: usize) -> usize
+    ensures { λ r. ⌜ r ≡ min sent left ⌝ }
+{
     if sent < left {
         return sent;
     }
@@ -55,19 +83,27 @@ pub fn least(sent: usize, left: usize) -> usize {
 }
 
 // How many pass after that.
-pub fn less(left: usize, sent: usize) -> usize {
+pub fn less(left: usize, sent: usize) -> usize
+    ensures { λ r. ⌜ r ≡ left - sent ⌝ }
+{
     if left < sent {
         return 0;
     }
     left - sent
 }
 
-// The number that four bytes of the record are.
-fn read_at(s: Saved, at: usize) -> usize
-    ensures { λ r. ⌜ r ≤ 4294967295 ⌝ }
+// The bytes that pass.
+pub fn passed(buffer: &[u8; 259], sent: usize, left: usize) -> &[u8]
+    ensures { λ r. ⌜ now r ≡ passedOf sent left (now (buffer .entry)) ⌝ }
 {
-    let bytes = s.bytes;
-    match little_reader::read_little(fields::part(&bytes, at, 4)) {
+    fields::part(buffer, 0, least(sent, left))
+}
+
+// The number that four bytes of a record are.
+fn read_at(b: &[u8], at: usize) -> usize
+    ensures { λ r. ⌜ (r ≡ numberAt at 4 (now (b .entry))) × (r ≤ 4294967295) ⌝ }
+{
+    match little_reader::read_little(fields::part(b, at, 4)) {
         Number::Value(v) => v as usize,
         Number::Malformed => 0,
     }
@@ -75,44 +111,56 @@ fn read_at(s: Saved, at: usize) -> usize
 
 // How many bytes the record says are kept.
 pub fn kept(s: Saved) -> usize
-    ensures { λ r. ⌜ r ≤ 4294967295 ⌝ }
+    ensures { λ r. ⌜ (r ≡ keptOf s) × (r ≤ 4294967295) ⌝ }
 {
-    read_at(s, 8)
+    let bytes = s.bytes;
+    read_at(fields::part(&bytes, 0, s.len), 8)
 }
 
-// Whether the area is the file's first bytes, and behind them what it was.
-fn holds(area: [u8; 320], file: &[u8], count: usize) -> bool {
+// Whether the file has so many bytes, and the area those and behind them what it was.
+fn holds(area: [u8; 320], file: &[u8], count: usize) -> bool
+    ensures { λ r. ⌜ r ≡ holdsOf area (now (file .entry)) count ⌝ }
+{
+    if file.len() < count {
+        return false;
+    }
     let mut want = [0xEE; 320];
     buffers::append_bytes(&mut want, 0, fields::part(file, 0, count));
     names::same(&area, &want)
 }
 
-// Whether the record is that of the file but for the kept count: its length, kind 2, the size, the stamp and the name.
-fn is_of_file(s: Saved, file: &[u8]) -> bool {
-    let bytes = s.bytes;
-    let record = fields::part(&bytes, 0, s.len);
-    if names::same(fields::part(record, 0, 4), b"\x16\x00\x02\x00") {
-        if read_at(s, 4) == file.len() {
-            return names::same(fields::part(record, 12, 81), b"\x00\x48\x21\x5A\x07abc.txt");
+// Whether a record is that of the file but for the kept count: its length, kind 2, the size, the stamp and the name.
+fn is_of_file(b: &[u8], file: &[u8]) -> bool
+    ensures { λ r. ⌜ r ≡ isOfFile (now (b .entry)) (now (file .entry)) ⌝ }
+{
+    if names::same(fields::part(b, 0, 4), b"\x16\x00\x02\x00") {
+        if read_at(b, 4) == file.len() {
+            let rest = fields::part(b, 12, b.len());
+            return names::same(rest, b"\x00\x48\x21\x5A\x07abc.txt");
         }
     }
     false
 }
 
 // Whether the record, where there is one, is the file's and says what the area holds.
-pub fn is_sound(s: Saved, file: &[u8]) -> bool {
+pub fn is_sound(s: Saved, file: &[u8]) -> bool
+    ensures { λ r. ⌜ r ≡ isSound s (now (file .entry)) ⌝ }
+{
     let area = s.area;
+    let bytes = s.bytes;
     if s.len == 0 {
         return holds(area, file, 0);
     }
-    if is_of_file(s, file) {
+    if is_of_file(fields::part(&bytes, 0, s.len), file) {
         return holds(area, file, kept(s));
     }
     false
 }
 
 // Whether the session is at its end and the file whole.
-pub fn is_whole(s: Saved, file: &[u8]) -> bool {
+pub fn is_whole(s: Saved, file: &[u8]) -> bool
+    ensures { λ r. ⌜ r ≡ isWhole s (now (file .entry)) ⌝ }
+{
     if s.success {
         if kept(s) == file.len() {
             return is_sound(s, file);

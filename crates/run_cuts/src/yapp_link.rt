@@ -1,5 +1,6 @@
 // A YAPP sender and a YAPP receiver, and the link between them.
 use crate::link;
+use crate::link::Link;
 use crate::link::Saved;
 use fields::Stamp;
 use yapp::ReceiverState;
@@ -8,8 +9,20 @@ use yapp_receiver::Receiver;
 use yapp_receiver::ReceiverAnswer;
 use yapp_sender::Sender;
 use yapp_sender::SenderAnswer;
+ghost use mathlib.Core.Path.{_≡_};
+ghost use Rattle.yapp_receiver.specs.Receiver.{receive as receiveOf};
+ghost use Rattle.run_cuts.specs.YappLink.{receiverOf, begin as beginOf, send as sendOf, turn as turnOf, isSent, isReceived, savedAfter, session as sessionOf};
 
-fn receiver_of(s: Saved, checks: bool) -> Receiver {
+// What stands between two turns.
+struct Ends {
+    sender: Sender,
+    receiver: Receiver,
+    link: Link,
+}
+
+fn receiver_of(s: Saved, checks: bool) -> Receiver
+    ensures { λ r. ⌜ r ≡ receiverOf s checks ⌝ }
+{
     let bytes = s.bytes;
     if s.len == 0 {
         return Receiver::fresh(320, true, checks);
@@ -17,88 +30,112 @@ fn receiver_of(s: Saved, checks: bool) -> Receiver {
     Receiver::resume(fields::part(&bytes, 0, s.len), 320, true, checks)
 }
 
+fn begin(before: Saved, bytes: usize, checks: bool, size: usize) -> Ends
+    ensures { λ r. ⌜ r ≡ beginOf before bytes checks size ⌝ }
+{
+    Ends {
+        sender: Sender::begin(b"abc.txt", size, 100, Stamp::Present(0x5A21_4800), true),
+        receiver: receiver_of(before, checks),
+        link: link::begin(before, bytes),
+    }
+}
+
 // The sender gets what came of the answer; where nothing was answered, it may send.
-fn send(
-    m: Sender,
-    answered: usize,
-    left: usize,
-    back: &[u8; 259],
-    file: &[u8],
-    out: &mut [u8; 259],
-) -> SenderAnswer {
+fn send(m: Sender, answered: usize, heard: &[u8], file: &[u8], out: &mut [u8; 259]) -> SenderAnswer
+    ensures { λ r. ⌜ sendOf m answered (now (heard .entry)) (now (file .entry)) (now (out .entry)) ≡ record { answer = r; reply = now (out .exit) } ⌝ }
+{
     if answered == 0 {
         return m.transmit(file, out);
     }
-    m.receive(
-        fields::part(back, 0, link::least(answered, left)),
-        file,
-        out,
-    )
+    m.receive(heard, file, out)
 }
 
 // The receiver gets what came of what was sent.
-fn take(
-    m: Receiver,
-    sent: usize,
-    left: usize,
-    to: &[u8; 259],
-    area: &mut [u8; 320],
-    out: &mut [u8; 259],
-) -> ReceiverAnswer {
-    m.receive(fields::part(to, 0, link::least(sent, left)), area, out)
+fn take(m: Receiver, came: &[u8], area: &mut [u8; 320], out: &mut [u8; 259]) -> ReceiverAnswer
+    ensures { λ r. ⌜ receiveOf m (now (came .entry)) (now (area .entry)) (now (out .entry)) ≡ record { answer = r; area = now (area .exit); reply = now (out .exit) } ⌝ }
+{
+    m.receive(came, area, out)
+}
+
+fn turn(e: Ends, file: &[u8]) -> Ends
+    ensures { λ r. ⌜ r ≡ turnOf (now (file .entry)) e ⌝ }
+{
+    let l = e.link;
+    let mut area = l.area;
+    let mut to = l.to;
+    let mut back = l.back;
+    let heard = link::passed(&back, l.answered, l.left);
+    let a = send(e.sender, l.answered, heard, file, &mut to);
+    let left = link::less(l.left, l.answered);
+    let came = link::passed(&to, a.sent, left);
+    let b = take(e.receiver, came, &mut area, &mut back);
+    let sender = a.sender;
+    let receiver = b.receiver;
+    let rest = link::less(left, a.sent);
+    Ends {
+        sender,
+        receiver,
+        link: Link {
+            area,
+            to,
+            back,
+            answered: b.sent,
+            left: rest,
+        },
+    }
+}
+
+fn is_sent(state: SenderState) -> bool
+    ensures { λ r. ⌜ r ≡ isSent state ⌝ }
+{
+    match state {
+        SenderState::S { .. } => false,
+        SenderState::SH => false,
+        SenderState::SD { .. } => false,
+        SenderState::SE => false,
+        SenderState::ST => false,
+        SenderState::CW { .. } => false,
+        SenderState::Ended { outcome } => link::is_success(outcome),
+    }
+}
+
+fn is_received(state: ReceiverState) -> bool
+    ensures { λ r. ⌜ r ≡ isReceived state ⌝ }
+{
+    match state {
+        ReceiverState::R => false,
+        ReceiverState::RH { .. } => false,
+        ReceiverState::RD => false,
+        ReceiverState::CW { .. } => false,
+        ReceiverState::Ended { outcome } => link::is_success(outcome),
+    }
+}
+
+fn left_by(e: Ends) -> Saved
+    ensures { λ r. ⌜ r ≡ savedAfter e ⌝ }
+{
+    let l = e.link;
+    let area = l.area;
+    let mut bytes = [0u8; 81];
+    let got = e.receiver.record(&mut bytes);
+    Saved {
+        area,
+        bytes,
+        len: calls::record_count(got),
+        success: link::both(is_sent(e.sender.state()), is_received(e.receiver.state())),
+    }
 }
 
 // Goes on from what a session left. So many bytes pass before the link breaks.
 // SI, HD, a turn to hear what came of it, a DT for each of three blocks, EF, ET, and a turn to hear what came of it.
-pub fn session(before: Saved, bytes: usize, checks: bool, file: &[u8]) -> Saved {
-    let mut receiver = receiver_of(before, checks);
-    let mut sender = Sender::begin(
-        b"abc.txt",
-        file.len(),
-        100,
-        Stamp::Present(0x5A21_4800),
-        true,
-    );
-    let mut area = before.area;
-    let mut to = [0u8; 259];
-    let mut back = [0u8; 259];
-    let mut answered = 0;
-    let mut left = bytes;
-    let mut turn: usize = 0;
-    while turn < 9 {
-        let a = send(sender, answered, left, &back, file, &mut to);
-        sender = a.sender;
-        left = link::less(left, answered);
-        let b = take(receiver, a.sent, left, &to, &mut area, &mut back);
-        receiver = b.receiver;
-        answered = b.sent;
-        left = link::less(left, a.sent);
-        turn += 1;
+pub fn session(before: Saved, bytes: usize, checks: bool, file: &[u8]) -> Saved
+    ensures { λ r. ⌜ r ≡ sessionOf before bytes checks (now (file .entry)) ⌝ }
+{
+    let mut e = begin(before, bytes, checks, file.len());
+    let mut i: usize = 0;
+    while i < 9 {
+        e = turn(e, file);
+        i += 1;
     }
-    left_by(sender, receiver, area)
-}
-
-fn left_by(sender: Sender, receiver: Receiver, area: [u8; 320]) -> Saved {
-    let mut bytes = [0u8; 81];
-    let got = receiver.record(&mut bytes);
-    Saved {
-        area,
-        bytes,
-        len: link::count(got),
-        success: link::both(is_sent(sender.state()), is_received(receiver.state())),
-    }
-}
-
-fn is_sent(state: SenderState) -> bool {
-    match state {
-        SenderState::Ended { outcome } => link::is_success(outcome),
-        _ => false,
-    }
-}
-
-fn is_received(state: ReceiverState) -> bool {
-    match state {
-        ReceiverState::Ended { outcome } => link::is_success(outcome),
-        _ => false,
-    }
+    left_by(e)
 }

@@ -1,2 +1,5 @@
 -- Laws that this program's proofs cite.
 pub mod Zeros
+pub mod Turns
+pub mod YappTurn
+pub mod BinTurn

@@ -9,6 +9,10 @@ use Rattle.transfer.specs.Numbers.{isEnd}
 use Rattle.transfer.specs.declared.link.Link.{Link}
 use Rattle.transfer.specs.declared.link.Saved.{Saved}
 
+-- the date and time of last change that the header and the line carry
+abbrev pub fileStamp : ℕ
+fileStamp = 0x5B6E_A3C0
+
 -- before the first session
 abbrev pub nothing : Saved
 nothing = record { bytes = replicate 81 0; count = 0; whole = false }

@@ -1,5 +1,5 @@
 -- The numbers by which the transcript prints states: the place of a state's word times 32, and the outcome's number where it has one; those
--- of lines, and how long a record is.
+-- of lines.
 use Prim.Native.Nat.{ℕ, _+_}
 use mathlib.Core.Bool.{Bool}
 use mathlib.Core.List.{List}
@@ -8,10 +8,7 @@ use Rattle.fields.specs.Pick.{pick}
 use Rattle.lines.specs.declared.Frame.{Frame}
 use Rattle.lines.specs.declared.Frame.the-variants.{Basic as BasicLine, Extended as ExtendedLine, MalformedLine, OK, OKName, OKKept, MalformedOK, NO, Stop, Display, Other}
 use Rattle.lines.specs.Frame.{frameOf}
-use Rattle.calls.specs.Count.{countOf}
 use Rattle.calls.specs.Numbers.{outcomeNumber}
-use Rattle.calls.specs.declared.RecordAnswer.{RecordAnswer}
-use Rattle.calls.specs.declared.RecordAnswer.the-variants.{NoRecord, Record}
 use Rattle.yapp.specs.declared.SenderState.{SenderState}
 use Rattle.yapp.specs.declared.SenderState.the-variants.{S, SH, SD, SE, ST, CW, Ended}
 use Rattle.yapp.specs.declared.ReceiverState.{ReceiverState}
@@ -70,8 +67,3 @@ lineNumber Other = 28
 -- 29 for a frame of the file
 abbrev pub frameNumber : Bool → List ℕ → ℕ
 frameNumber isData b = pick isData 29 (lineNumber (frameOf b))
-
--- how many bytes a record's answer has
-abbrev pub recordCount : RecordAnswer → ℕ
-recordCount NoRecord = 0
-recordCount (Record written) = countOf written

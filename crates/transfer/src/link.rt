@@ -2,6 +2,7 @@
 use crate::text;
 ghost use mathlib.Core.Path.{_≡_};
 ghost use lib.ListN.{take};
+ghost use Rattle.transfer.specs.Writes.{Stays};
 ghost use Rattle.transfer.specs.Link.{nothing as nothingOf, whole as wholeOf, after as afterOf, withAnswer, isOver, ofFrame, passed as passedOf};
 
 pub struct Link {
@@ -17,7 +18,7 @@ pub struct Link {
 // The date and time of last change that the header and the line carry.
 pub const STAMP: u32 = 0x5B6E_A3C0;
 
-// What a session leaves: the bytes of its record, how many they are, and whether the receiver ended with the file whole.
+// What a session leaves: the bytes of its record, how many they are, and whether the receiver ended with success.
 pub struct Saved {
     pub bytes: [u8; 81],
     pub count: usize,
@@ -125,7 +126,35 @@ pub fn passed(link: Link, bytes: &[u8]) -> &[u8]
 }
 
 // A packet or a frame on its way, by the number of its word, and how much of it passes.
-pub fn show(link: Link, from: usize, number: usize, bytes: &[u8], failed: &mut bool) {
+pub fn show(link: Link, from: usize, number: usize, bytes: &[u8], failed: &mut bool)
+    ensures { λ r. ⌜ Stays (now (failed .entry)) (now (failed .exit)) ⌝ }
+{
     let some = passed(link, bytes);
     text::passing(from, number, bytes.len(), some.len(), failed);
+}
+
+// The same of a packet, by its type.
+pub fn show_packet(link: Link, from: usize, packet: &[u8], checks: bool, failed: &mut bool)
+    ensures { λ r. ⌜ Stays (now (failed .entry)) (now (failed .exit)) ⌝ }
+{
+    show(
+        link,
+        from,
+        text::packet_number(packet, checks),
+        packet,
+        failed,
+    );
+}
+
+// The same of a frame, by what it is.
+pub fn show_frame(link: Link, from: usize, frame: &[u8], is_data: bool, failed: &mut bool)
+    ensures { λ r. ⌜ Stays (now (failed .entry)) (now (failed .exit)) ⌝ }
+{
+    show(
+        link,
+        from,
+        text::frame_number(frame, is_data),
+        frame,
+        failed,
+    );
 }

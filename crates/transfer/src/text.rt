@@ -4,7 +4,8 @@ use crate::printing::put_number;
 use crate::printing::put_word;
 use bin::ReceiverState as BinReceiverState;
 use bin::SenderState as BinSenderState;
-use calls::RecordAnswer;
+use bin_receiver::Receiver as BinReceiver;
+use bin_sender::Sender as BinSender;
 use calls::outcomes;
 use lines::Frame;
 use lines::line_reader;
@@ -12,12 +13,15 @@ use packets::kinds;
 use packets::packet_reader;
 use yapp::ReceiverState;
 use yapp::SenderState;
+use yapp_receiver::Receiver;
+use yapp_sender::Sender;
 ghost use mathlib.Core.Path.{_≡_};
 ghost use mathlib.Core.List.{[]};
 ghost use Rattle.packets.specs.Content.{contentOf};
 ghost use Rattle.packets.specs.Kind.{kindOf};
 ghost use Rattle.packets.specs.Packet.{packetOf};
-ghost use Rattle.transfer.specs.Numbers.{senderNumber, receiverNumber, binSenderNumber, binReceiverNumber, isEnd, lineNumber, frameNumber, recordCount};
+ghost use Rattle.transfer.specs.Writes.{Stays};
+ghost use Rattle.transfer.specs.Numbers.{senderNumber, receiverNumber, binSenderNumber, binReceiverNumber, isEnd, lineNumber, frameNumber};
 
 // An end that ended with success, as the four functions below number it.
 pub const SUCCESS: usize = 480;
@@ -31,7 +35,9 @@ pub const RECEIVER: usize = 1;
 pub const SENDING: usize = 320;
 
 // An outcome's number and its words; 18, 19, 20 and 22 are no outcomes.
-fn print_outcome(number: usize, failed: &mut bool) {
+fn print_outcome(number: usize, failed: &mut bool)
+    ensures { λ r. ⌜ Stays (now (failed .entry)) (now (failed .exit)) ⌝ }
+{
     put_number(b"|", 0, number, failed);
     put(b" ", failed);
     put_word(
@@ -61,7 +67,9 @@ fn print_outcome(number: usize, failed: &mut bool) {
 }
 
 // A state's number is the place of its word times 32, and the outcome's number where it has one.
-fn print_state(number: usize, failed: &mut bool) {
+fn print_state(number: usize, failed: &mut bool)
+    ensures { λ r. ⌜ Stays (now (failed .entry)) (now (failed .exit)) ⌝ }
+{
     put_word(
         b"S|SH|SD|SE|ST|R|RH|RD|start|wait|send|waiting|basic|extended|CW, |ended, |",
         number / 32,
@@ -128,7 +136,9 @@ pub fn is_end(number: usize) -> bool
 }
 
 // An end's step from one state to another.
-pub fn moved(who: usize, before: usize, after: usize, failed: &mut bool) {
+pub fn moved(who: usize, before: usize, after: usize, failed: &mut bool)
+    ensures { λ r. ⌜ Stays (now (failed .entry)) (now (failed .exit)) ⌝ }
+{
     if before / 32 == after / 32 {
         return;
     }
@@ -140,23 +150,79 @@ pub fn moved(who: usize, before: usize, after: usize, failed: &mut bool) {
     put_word(words, 3, failed);
 }
 
+// The same of each protocol's ends.
+pub fn sender_moved(before: Sender, after: Sender, failed: &mut bool)
+    ensures { λ r. ⌜ Stays (now (failed .entry)) (now (failed .exit)) ⌝ }
+{
+    moved(
+        SENDER,
+        sender_number(before.state()),
+        sender_number(after.state()),
+        failed,
+    );
+}
+
+pub fn receiver_moved(before: Receiver, after: Receiver, failed: &mut bool)
+    ensures { λ r. ⌜ Stays (now (failed .entry)) (now (failed .exit)) ⌝ }
+{
+    moved(
+        RECEIVER,
+        receiver_number(before.state()),
+        receiver_number(after.state()),
+        failed,
+    );
+}
+
+pub fn bin_sender_moved(before: BinSender, after: BinSender, failed: &mut bool)
+    ensures { λ r. ⌜ Stays (now (failed .entry)) (now (failed .exit)) ⌝ }
+{
+    moved(
+        SENDER,
+        bin_sender_number(before.state()),
+        bin_sender_number(after.state()),
+        failed,
+    );
+}
+
+pub fn bin_receiver_moved(before: BinReceiver, after: BinReceiver, failed: &mut bool)
+    ensures { λ r. ⌜ Stays (now (failed .entry)) (now (failed .exit)) ⌝ }
+{
+    moved(
+        RECEIVER,
+        bin_receiver_number(before.state()),
+        bin_receiver_number(after.state()),
+        failed,
+    );
+}
+
 // A packet or a frame on its way, if it has any bytes: who sent it, the place of its word, and how many of its bytes pass.
-pub fn passing(from: usize, number: usize, n: usize, passed: usize, failed: &mut bool) {
+pub fn passing(from: usize, number: usize, n: usize, passed: usize, failed: &mut bool)
+    ensures { λ r. ⌜ Stays (now (failed .entry)) (now (failed .exit)) ⌝ }
+{
     if n == 0 {
         return;
     }
-    let words: &[u8] = b"> |< | | bytes|, the link breaks after |\n|";
+    let words: &[u8] = b"> |< | | bytes|\n|";
     put_word(words, from, failed);
     print_kind(number, failed);
     put_number(words, 2, n, failed);
     put_word(words, 3, failed);
-    if passed < n {
-        put_number(words, 4, passed, failed);
-    }
-    put_word(words, 5, failed);
+    print_break(n, passed, failed);
+    put_word(words, 4, failed);
 }
 
-fn print_kind(number: usize, failed: &mut bool) {
+// Where the link breaks, if not all of the n bytes pass.
+fn print_break(n: usize, passed: usize, failed: &mut bool)
+    ensures { λ r. ⌜ Stays (now (failed .entry)) (now (failed .exit)) ⌝ }
+{
+    if passed < n {
+        put_number(b", the link breaks after |", 0, passed, failed);
+    }
+}
+
+fn print_kind(number: usize, failed: &mut bool)
+    ensures { λ r. ⌜ Stays (now (failed .entry)) (now (failed .exit)) ⌝ }
+{
     put_word(
         b"RR|RF|AF|AT|CA|RT|SI|RI|HD|DT|EF|ET|NR|RE|CN|TX|malformed HD|unreadable|unfinished|\
           line|malformed line|OK|OK with name|OK with kept count|malformed OK|NO|stop|display|other|data|",
@@ -197,14 +263,4 @@ pub fn frame_number(bytes: &[u8], is_data: bool) -> usize
         return 29;
     }
     line_number(line_reader::frame_of(bytes))
-}
-
-// How many bytes a record's answer has.
-pub fn count_of(answer: RecordAnswer) -> usize
-    ensures { λ r. ⌜ r ≡ recordCount answer ⌝ }
-{
-    match answer {
-        RecordAnswer::NoRecord => 0,
-        RecordAnswer::Record(written) => calls::count(written),
-    }
 }

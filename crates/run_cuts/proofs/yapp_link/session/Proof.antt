@@ -1,53 +1,52 @@
--- The loop of `session` ends. Assumes nothing.
+-- The loop of `session`: after i turns the ends stand as `turns` says. Assumes nothing.
 use Prim.Native.Nat.{_≤_, _-_}
+use mathlib.Core.Path.{_≡_, ap, _∙_}
+use native.Mathlib.Omega.{arith}
+use denote.Ref.{now}
 use borrow.Author.Needs.{needs}
+use Rattle.run_cuts.specs.Link.{turns}
+use Rattle.run_cuts.specs.YappLink.{turn, savedAfter, session}
+use Rattle.run_cuts.proofs.Sessions.{turns-none, turns-on, turns-all}
 use Rattle.run_cuts.proofs.yapp_link.session.Statement.{statement}
 use Rattle.run_cuts.proofs.yapp_link.session.Tie as tie
 
 abbrev Inv-loop : tie.InvT-loop
-Inv-loop bytes checks file receiver₀ sender₀ area₀ to₀ back₀ answered₀ left₀ turn₀ receiver sender area to back answered left turn = turn ≤ 9
+Inv-loop bytes checks file e₀ i₀ e i = (e ≡ turns (turn file) i e₀) × (i ≤ 9)
 
 abbrev μ-loop : tie.MeasureT-loop
-μ-loop bytes checks file receiver₀ sender₀ area₀ to₀ back₀ answered₀ left₀ turn₀ receiver sender area to back answered left turn = 9 - turn
-
-receiver-of-requires : tie.Need-receiver-of-requires Inv-loop μ-loop
-receiver-of-requires c κs = search needs
-
-slice-aggregate-begin : tie.Need-slice-aggregate-begin Inv-loop μ-loop
-slice-aggregate-begin c = search needs
+μ-loop bytes checks file e₀ i₀ e i = 9 - i
 
 begin-requires : tie.Need-begin-requires Inv-loop μ-loop
 begin-requires c κs = search needs
 
 loop-holds : tie.Need-loop-holds Inv-loop μ-loop
-loop-holds c = search needs
+loop-holds c = (turns-none (turn (now (c .before .before .args .file))) _, omega arith)
 
-send-requires : tie.Need-send-requires Inv-loop μ-loop
-send-requires c κs = search needs
+turn-requires : tie.Need-turn-requires Inv-loop μ-loop
+turn-requires c κs = search needs
 
-less-requires : tie.Need-less-requires Inv-loop μ-loop
-less-requires c κs = search needs
-
-take-requires : tie.Need-take-requires Inv-loop μ-loop
-take-requires c κs = search needs
-
-less-requires-2 : tie.Need-less-requires-2 Inv-loop μ-loop
-less-requires-2 c κs = search needs
-
-add-turn : tie.Need-add-turn Inv-loop μ-loop
-add-turn c = search (needs, c .before .before .before .before .before .before .before .before .before .before .before .loop-test .taken)
+add-i : tie.Need-add-i Inv-loop μ-loop
+add-i c = search needs
 
 loop-less : tie.Need-loop-less Inv-loop μ-loop
-loop-less c = search (needs, c .before .before .before .before .before .before .before .before .before .before .before .loop-test .taken)
+loop-less c = search needs
 
 loop-again : tie.Need-loop-again Inv-loop μ-loop
-loop-again c = search (needs, c .before .before .before .before .before .before .before .before .before .before .before .loop-test .taken)
+loop-again c =
+    let l = c .before .before .loop in
+    let file = now (c .before .before .before .before .before .args .file) in
+    (turns-on (turn file) (l .i) _ (l .e) _ (l .inv .0) (c .turn .ensures), omega arith)
 
 left-by-requires : tie.Need-left-by-requires Inv-loop μ-loop
 left-by-requires c κs = search needs
 
 returns : tie.Need-returns Inv-loop μ-loop
-returns c = search needs
+unfolding session
+returns c =
+    let l = c .before .before .loop in
+    let file = now (c .before .before .before .before .before .args .file) in
+    c .left-by .ensures
+    ∙ ap savedAfter (turns-all (turn file) 9 (l .i) _ _ (l .e) (c .before .before .before .begin .ensures) (l .inv .0) (omega arith))
 
 pub session-spec : {M : Type 1} → statement M
 session-spec =
@@ -55,15 +54,10 @@ session-spec =
     (tie.spec
     Inv-loop
     μ-loop
-    receiver-of-requires
-    slice-aggregate-begin
     begin-requires
     loop-holds
-    send-requires
-    less-requires
-    take-requires
-    less-requires-2
-    add-turn
+    turn-requires
+    add-i
     loop-less
     loop-again
     left-by-requires

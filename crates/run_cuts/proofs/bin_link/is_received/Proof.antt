@@ -1,0 +1,45 @@
+-- `is_received` by its cases. Assumes nothing.
+use borrow.Author.Needs.{needs}
+use Rattle.run_cuts.proofs.bin_link.is_received.Statement.{statement}
+use Rattle.run_cuts.proofs.bin_link.is_received.Tie as tie
+
+enum-told : tie.Need-enum-told
+enum-told c = search needs
+
+enum-told-2 : tie.Need-enum-told-2
+enum-told-2 c = search needs
+
+enum-told-3 : tie.Need-enum-told-3
+enum-told-3 c = search needs
+
+enum-known-state : tie.Need-enum-known-state
+enum-known-state c = search needs
+
+is-success-requires : tie.Need-is-success-requires
+is-success-requires c κs = search needs
+
+returns : tie.Need-returns
+returns c = search needs
+
+returns-2 : tie.Need-returns-2
+returns-2 c = search needs
+
+returns-3 : tie.Need-returns-3
+returns-3 c = search needs
+
+returns-4 : tie.Need-returns-4
+returns-4 c = rw (c .before .before .state .given .1) (c .is-success .ensures)
+
+pub is-received-spec : {M : Type 1} → statement M
+is-received-spec =
+    tie.close
+    (tie.spec
+    enum-told
+    enum-told-2
+    enum-told-3
+    enum-known-state
+    is-success-requires
+    returns
+    returns-2
+    returns-3
+    returns-4)

@@ -1,0 +1,3 @@
+pub mod BinLink
+pub mod Link
+pub mod YappLink
