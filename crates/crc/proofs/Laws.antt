@@ -31,7 +31,7 @@ pub crc-append : (a b : List ℕ) → crcOf (a ++ b) ≡ walkFrom (crcOf a) b
 crc-append a b = walk-append 0 a b
 
 -- what is taken off has the term x^16 where n has it
-reduced-lt : (n : ℕ) → n < 2 ^ 17 → reduced n < 2 ^ 16
+pub reduced-lt : (n : ℕ) → n < 2 ^ 17 → reduced n < 2 ^ 16
 unfolding reduced
 reduced-lt n h =
     let t = n / 0x10000 in

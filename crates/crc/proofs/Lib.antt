@@ -1,2 +1,5 @@
 pub mod Table
 pub mod Laws
+pub mod Xor
+pub mod Times
+pub mod Eight
