@@ -39,10 +39,12 @@ times-parts k r h =
     ∙ times-xor k (r / 256 * 256) (r % 256) (omega arith) (omega arith)
     ∙ ap (λ (n : ℕ). bitXor n (times k (r % 256))) (ap (times k) (sym (byte-times (r / 256) (omega arith))) ∙ times-add k 8 (r / 256))
 
+-- a step multiplies by x^8 and adds the byte
 pub step-times : (r c : ℕ) → r < 2 ^ 16 → byteStep r c ≡ bitXor (times 8 r) c
 unfolding byteStep
 step-times r c h = rw (times-parts 8 r h, entry-times (r / 256) (omega arith), byte-times (r % 256) (omega arith)) refl
 
+-- and a step times x^k
 pub times-step : (k r c : ℕ) → r < 2 ^ 16 → c < 256 → times k (byteStep r c) ≡ bitXor (times (k + 8) r) (times k c)
 times-step k r c h q =
     ap (times k) (step-times r c h) ∙ times-xor k (times 8 r) c (times-lt 8 r h) (omega arith)
@@ -60,6 +62,7 @@ rows-next i h =
     step-times r 0 l ∙ xor-zero-r (times 8 r) ∙ times-add 8 (16 + 8 * (j / 256)) (j % 256) ∙ ap (λ (n : ℕ). times n (j % 256)) e
     ∙ ap (times (16 + 8 * (i / 256))) m
 
+-- the first row is the table
 pub rows-first : (i : ℕ) → i < 256 → entry i ≡ rowsAt i
 unfolding rowsAt
 rows-first i h =
@@ -75,6 +78,7 @@ rows-row j b h =
     let m : (j * 256 + b) % 256 ≡ b = omega arith in
     ap (λ (n : ℕ). times (16 + 8 * n) ((j * 256 + b) % 256)) e ∙ ap (times (16 + 8 * j)) m
 
+-- eight steps: each byte times a power of x of its own, and the high and the low byte of r
 pub eight : (r a b c d e f g h : ℕ) → r < 2 ^ 16 → a < 256 → b < 256 → c < 256 → d < 256 → e < 256 → f < 256 → g < 256
     → eightSteps r a b c d e f g h
     ≡ bitXor (mix (times 56 a) (times 48 b ∷ times 40 c ∷ times 32 d ∷ times 24 e ∷ times 16 f ∷ g * 256 ∷ h ∷ []))

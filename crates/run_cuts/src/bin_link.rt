@@ -118,7 +118,7 @@ fn is_received(state: ReceiverState) -> bool
     }
 }
 
-fn left_by(e: Ends) -> Saved
+fn saved_after(e: Ends) -> Saved
     ensures { λ r. ⌜ r ≡ savedAfter e ⌝ }
 {
     let l = e.link;
@@ -144,5 +144,5 @@ pub fn session(before: Saved, bytes: usize, block: usize, is_shown: bool, file: 
         e = turn(e, is_shown, i, file);
         i += 1;
     }
-    left_by(e)
+    saved_after(e)
 }

@@ -111,7 +111,7 @@ fn is_received(state: ReceiverState) -> bool
     }
 }
 
-fn left_by(e: Ends) -> Saved
+fn saved_after(e: Ends) -> Saved
     ensures { λ r. ⌜ r ≡ savedAfter e ⌝ }
 {
     let l = e.link;
@@ -137,5 +137,5 @@ pub fn session(before: Saved, bytes: usize, checks: bool, file: &[u8]) -> Saved
         e = turn(e, file);
         i += 1;
     }
-    left_by(e)
+    saved_after(e)
 }
