@@ -1,4 +1,5 @@
--- What the two ends of #BIN# do, over frames. (Document 01, "Lines of #BIN#".)
+-- What the two ends of #BIN# do, over frames. (Document 01, "Lines of #BIN#".) Every CRC of an end, the line's, the third OK's, and those that
+-- 16 and 11 judge by, is by the reading that its session is set to (request 2026-06).
 use Prim.Native.Nat.{ℕ, _+_}
 use mathlib.Core.Bool.{Bool, true, false, _&&_}
 use mathlib.Core.List.{List, [], _∷_, _++_}
@@ -9,7 +10,8 @@ use Rattle.fields.specs.Pick.{pick}
 use Rattle.fields.specs.Lists.{same}
 use Rattle.fields.specs.Buffer.{appended}
 use Rattle.fields.specs.declared.Stamp.the-variants.{Present}
-use Rattle.crc.specs.Crc.{crcOf}
+use Rattle.crc.specs.declared.Reading.{Reading}
+use Rattle.crc.specs.Crc.{crcBy}
 use Rattle.lines.specs.Frame.{starts, displayMark, stopFrame, frameOf}
 use Rattle.lines.specs.Element.{Element, basic, extended, malformedLine, ok, okName, okKept, malformedOK, no, stop, display, other, contentOf, formOf}
 use Rattle.records.specs.Saved.{Saved}
@@ -63,7 +65,7 @@ stops o = goes (Ended o) (stopFrame ∷ [])
 -- the line: size, CRC of the whole file, stamp, `?` if resume is possible, name
 abbrev pub lineBy : SenderSettings → List ℕ → Announce → Element
 lineBy s file Basic = basic (s .size)
-lineBy s file (Extended stamp resumes) = extended (s .size) (crcOf file) stamp resumes (s .name)
+lineBy s file (Extended stamp resumes reading) = extended (s .size) (crcBy reading file) stamp resumes (s .name)
 
 abbrev pub lineOf : SenderSettings → List ℕ → List ℕ
 lineOf s file = bytesIn (formOf (lineBy s file (s .announce)))
@@ -80,16 +82,16 @@ senderTransmits s file (Send n) =
     goes (sendsFrom file (n + length (cut (s .block) (drop n file)))) (cut (s .block) (drop n file) ∷ [])
 senderTransmits s file (Ended o) = goes (Ended o) []
 
--- whether `?` was sent
-abbrev pub announcesResume : Announce → Bool
-announcesResume Basic = false
-announcesResume (Extended stamp resumes) = resumes
+-- whether `?` was sent, a kept count is not over the size, and a CRC is that of the sender's own beginning
+abbrev pub isOurs : SenderSettings → List ℕ → Announce → ℕ → ℕ → Bool
+isOurs s file Basic kept crc = false
+isOurs s file (Extended stamp resumes reading) kept crc =
+    resumes && (leb kept (s .size) && eqb (crcBy reading (take kept file)) crc)
 
 -- the third OK: a kept count over the size, a CRC unlike that of the sender's own beginning, or where no `?` was sent, is 16
 unfoldable pub resumesAt : SenderSettings → List ℕ → ℕ → ℕ → SenderMove
 resumesAt s file kept crc =
-    pick (announcesResume (s .announce) && (leb kept (s .size) && eqb (crcOf (take kept file)) crc))
-    (goes (sendsFrom file kept) []) (stops NotOurs)
+    pick (isOurs s file (s .announce) kept crc) (goes (sendsFrom file kept) []) (stops NotOurs)
 
 -- while waiting: `#NO#` is 14, stop is 15, a malformed OK is 7; others not starting `#OK#` are ignored
 unfoldable pub senderHears : SenderSettings → List ℕ → Element → SenderMove
@@ -135,6 +137,7 @@ senderEnded (Ended o) = true
 pub record ReceiverSettings : Type 0 where
   pub room : ℕ
   pub resumes : Bool
+  pub reading : Reading
 
 -- where a receiver goes: its state, its record, the area, the frames that it sends, how many bytes it stored
 pub record ReceiverMove : Type 0 where
@@ -156,10 +159,10 @@ refuses v a o text = answers (Over o) v a (says (no text)) 0
 
 -- n bytes were stored, and reply is what is said. At the announced size it ends, and the whole CRC must agree: else it is 11, the stop
 -- frame goes out in place of the reply, and there is no record any more
-unfoldable pub judgeWhole : ℕ → Option Saved → List ℕ → List (List ℕ) → ℕ → ReceiverMove
-judgeWhole crc v a reply n =
+unfoldable pub judgeWhole : Reading → ℕ → Option Saved → List ℕ → List (List ℕ) → ℕ → ReceiverMove
+judgeWhole reading crc v a reply n =
     pick (eqb (keptOf v) (sizeOf v))
-    (pick (eqb (crcOf (take (sizeOf v) a)) crc) (answers (Over Success) v a reply n)
+    (pick (eqb (crcBy reading (take (sizeOf v) a)) crc) (answers (Over Success) v a reply n)
     (answers (Over CheckFailed) none a (stopFrame ∷ []) n))
     (answers (Takes crc) v a reply n)
 
@@ -167,12 +170,12 @@ judgeWhole crc v a reply n =
 -- and the CRC of the kept bytes; otherwise the second OK
 unfoldable pub judgeRecord : ReceiverSettings → Option Saved → List ℕ → ℕ → ℕ → ℕ → Bool → List ℕ → ReceiverMove
 judgeRecord t none a size crc stamp resumable name =
-    judgeWhole crc (some (record { size = size; kept = 0; stamp = Present stamp; name = name })) a (says (okName name)) 0
+    judgeWhole (t .reading) crc (some (record { size = size; kept = 0; stamp = Present stamp; name = name })) a (says (okName name)) 0
 judgeRecord t (some v) a size crc stamp resumable name =
     pick (resumable && t .resumes)
     (pick (same (v .name) name && eqb (v .size) size)
-    (judgeWhole crc (some (record { size = size; kept = v .kept; stamp = Present stamp; name = name })) a
-    (says (okKept name (v .kept) (crcOf (take (v .kept) a)))) 0)
+    (judgeWhole (t .reading) crc (some (record { size = size; kept = v .kept; stamp = Present stamp; name = name })) a
+    (says (okKept name (v .kept) (crcBy (t .reading) (take (v .kept) a)))) 0)
     (refuses (some v) a Differs differsText))
     (refuses (some v) a HaveFile haveText)
 
@@ -214,10 +217,10 @@ sorted st v a f file =
     pick (starts displayMark f) (answers st v a [] 0) (pick (same stopFrame f) (answers (Over Cancelled) v a [] 0) file)
 
 -- stored directly behind the kept bytes and counted as kept in the same step; a frame past the size stores nothing (12)
-unfoldable pub takesFrame : ℕ → Option Saved → List ℕ → List ℕ → ReceiverMove
-takesFrame crc v a f =
+unfoldable pub takesFrame : Reading → ℕ → Option Saved → List ℕ → List ℕ → ReceiverMove
+takesFrame reading crc v a f =
     pick (leb (keptOf v + length f) (sizeOf v))
-    (judgeWhole crc (grown v (length f)) (appended (keptOf v) f a) [] (length f))
+    (judgeWhole reading crc (grown v (length f)) (appended (keptOf v) f a) [] (length f))
     (answers (Over PastSize) v a (stopFrame ∷ []) 0)
 
 unfoldable pub takesBasicFrame : ℕ → ℕ → Option Saved → List ℕ → List ℕ → ReceiverMove
@@ -231,7 +234,7 @@ receiverTakes t st v a [] = answers st v a [] 0
 receiverTakes t Waiting v a (x ∷ f) = receiverHears t v a (heard (x ∷ f))
 receiverTakes t (TakesBasic size kept) v a (x ∷ f) =
     sorted (TakesBasic size kept) v a (x ∷ f) (takesBasicFrame size kept v a (x ∷ f))
-receiverTakes t (Takes crc) v a (x ∷ f) = sorted (Takes crc) v a (x ∷ f) (takesFrame crc v a (x ∷ f))
+receiverTakes t (Takes crc) v a (x ∷ f) = sorted (Takes crc) v a (x ∷ f) (takesFrame (t .reading) crc v a (x ∷ f))
 receiverTakes t (Over o) v a (x ∷ f) = answers (Over o) v a [] 0
 
 -- timer or operator's stop before the end sends the stop frame and ends

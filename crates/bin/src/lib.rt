@@ -1,5 +1,6 @@
 // #BIN#, basic and extended: the states of sender and receiver, and what they do.
 use calls::Outcome;
+use crc::Reading;
 
 pub enum SenderState {
     // Nothing was sent yet.
@@ -11,11 +12,15 @@ pub enum SenderState {
     Ended { outcome: Outcome },
 }
 
-// What a sender announces beside the size: nothing in a basic transfer.
+// What a sender is begun with beside name, size and block: nothing in a basic transfer.
 pub enum Announce {
     Basic,
-    // The stamp, and whether resume is possible.
-    Extended { stamp: u32, resumes: bool },
+    // The stamp, whether resume is possible, and the reading that the session's CRCs go by, which the line does not tell.
+    Extended {
+        stamp: u32,
+        resumes: bool,
+        reading: Reading,
+    },
 }
 
 pub enum ReceiverState {

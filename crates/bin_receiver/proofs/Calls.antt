@@ -33,7 +33,7 @@ module _ (m : Receiver) (shown : Place) (reply : List ℕ) where
     answer = record {
       receiver = record {
         name = x .name;
-        core = record { state = x .state; room = m .core .room; resumes = m .core .resumes; keeping = x .keeping };
+        core = record { state = x .state; room = m .core .room; resumes = m .core .resumes; reading = m .core .reading; keeping = x .keeping };
       };
       status = Taken;
       sent = length (joined (x .out));

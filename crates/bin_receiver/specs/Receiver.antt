@@ -22,38 +22,40 @@ use Rattle.calls.specs.declared.Status.{Status}
 use Rattle.calls.specs.declared.Status.the-variants.{Taken}
 use Rattle.calls.specs.Checks.{checkOf, unless}
 use Rattle.calls.specs.Saving.{savedBy, keepingOf, nameOf, formBy}
+use Rattle.crc.specs.declared.Reading.{Reading}
 use Rattle.bin.specs.declared.ReceiverState.{ReceiverState}
 use Rattle.bin.specs.declared.ReceiverState.the-variants.{Waiting, Basic, Extended, Ended}
 use Rattle.bin.specs.Steps.{joined, ReceiverSettings, ReceiverMove, receiverTakes, receiverFails, receiverEnded}
+use Rattle.bin_receiver.specs.declared.step.ReceiverCore.{ReceiverCore}
 use Rattle.bin_receiver.specs.declared.Receiver.{Receiver}
 use Rattle.bin_receiver.specs.declared.ReceiverAnswer.{ReceiverAnswer}
 
--- ---- the beginnings
+-- ---- the beginnings: each session is set to a reading of the CRC (request 2026-06)
 
 -- a receiver in a state, with a record or none
-abbrev pub receiverWith : ReceiverState → ℕ → Bool → Option Saved → Receiver
-receiverWith st room resumes v = record {
+abbrev pub receiverWith : ReceiverState → ℕ → Bool → Reading → Option Saved → Receiver
+receiverWith st room resumes reading v = record {
   name = appended 0 (nameOf v) (replicate 64 0);
-  core = record { state = st; room = room; resumes = resumes; keeping = keepingOf v };
+  core = record { state = st; room = room; resumes = resumes; reading = reading; keeping = keepingOf v };
 }
 
 -- with no record
-unfoldable pub fresh : ℕ → Bool → Receiver
-fresh room resumes = receiverWith Waiting room resumes none
+unfoldable pub fresh : ℕ → Bool → Reading → Receiver
+fresh room resumes reading = receiverWith Waiting room resumes reading none
 
 -- kept over size, or size over area (2)
-unfoldable pub withSaved : ℕ → Bool → Saved → Receiver
-withSaved room resumes v =
-    pick (leb (v .kept) (v .size) && leb (v .size) room) (receiverWith Waiting room resumes (some v))
-    (receiverWith (Ended RecordOver) room resumes none)
+unfoldable pub withSaved : ℕ → Bool → Reading → Saved → Receiver
+withSaved room resumes reading v =
+    pick (leb (v .kept) (v .size) && leb (v .size) room) (receiverWith Waiting room resumes reading (some v))
+    (receiverWith (Ended RecordOver) room resumes reading none)
 
-abbrev pub resumeBy : ℕ → Bool → List ℕ → RecordRead → Receiver
-resumeBy room resumes b (Good r) = withSaved room resumes (savedOf b r)
-resumeBy room resumes b Unreadable = receiverWith (Ended RecordUnreadable) room resumes none
+abbrev pub resumeBy : ℕ → Bool → Reading → List ℕ → RecordRead → Receiver
+resumeBy room resumes reading b (Good r) = withSaved room resumes reading (savedOf b r)
+resumeBy room resumes reading b Unreadable = receiverWith (Ended RecordUnreadable) room resumes reading none
 
 -- from a record's bytes; one that is unreadable is 1
-unfoldable pub resume : List ℕ → ℕ → Bool → Receiver
-resume b room resumes = resumeBy room resumes b (recordOf b)
+unfoldable pub resume : List ℕ → ℕ → Bool → Reading → Receiver
+resume b room resumes reading = resumeBy room resumes reading b (recordOf b)
 
 -- ---- the calls
 
@@ -63,8 +65,11 @@ pub record ReceiverAfter : Type 0 where
   pub area : List ℕ
   pub reply : List ℕ
 
+abbrev pub settingsBy : ReceiverCore → ReceiverSettings
+settingsBy c = record { room = c .room; resumes = c .resumes; reading = c .reading }
+
 abbrev pub settingsOf : Receiver → ReceiverSettings
-settingsOf m = record { room = m .core .room; resumes = m .core .resumes }
+settingsOf m = settingsBy (m .core)
 
 abbrev pub savedIn : Receiver → Option Saved
 savedIn m = savedBy (m .core .keeping) (m .name)
@@ -80,7 +85,7 @@ repliedWith m shown st k name said stored area reply = record {
   answer = record {
     receiver = record {
       name = appended 0 name (m .name);
-      core = record { state = st; room = m .core .room; resumes = m .core .resumes; keeping = k };
+      core = record { state = st; room = m .core .room; resumes = m .core .resumes; reading = m .core .reading; keeping = k };
     };
     status = Taken;
     sent = length said;

@@ -10,14 +10,10 @@ use Rattle.lines.specs.Element.{ok, okName, okKept, no}
 use Rattle.calls.specs.declared.Keeping.{Keeping}
 use Rattle.calls.specs.Saving.{keepingOf, nameOf}
 use Rattle.bin.specs.declared.ReceiverState.{ReceiverState}
-use Rattle.bin.specs.Steps.{ReceiverSettings, ReceiverMove, says, formatText, roomText, haveText, differsText}
-use Rattle.bin_receiver.specs.declared.step.ReceiverCore.{ReceiverCore}
+use Rattle.bin.specs.Steps.{ReceiverMove, says, formatText, roomText, haveText, differsText}
 use Rattle.bin_receiver.specs.declared.step.Step.{Step}
 use Rattle.bin_receiver.specs.declared.step.Out.{Out}
 use Rattle.bin_receiver.specs.declared.step.Out.the-variants.{Silent, Format, Room, Have, Differs, FirstOk, SecondOk, ThirdOk, Stop}
-
-abbrev pub settingsBy : ReceiverCore → ReceiverSettings
-settingsBy c = record { room = c .room; resumes = c .resumes }
 
 -- the frames that are said, with a name
 abbrev pub framesOf : List ℕ → Out → List (List ℕ)

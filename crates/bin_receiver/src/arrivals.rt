@@ -11,7 +11,8 @@ ghost use lib.ListN.{length};
 ghost use Prim.Native.Nat.{_<_};
 ghost use Rattle.calls.specs.Saving.{savedBy, heldOf};
 ghost use Rattle.bin.specs.Steps.{receiverTakes};
-ghost use Rattle.bin_receiver.specs.Step.{settingsBy, reached, reachedBy};
+ghost use Rattle.bin_receiver.specs.Receiver.{settingsBy};
+ghost use Rattle.bin_receiver.specs.Step.{reached, reachedBy};
 
 // A frame that is not empty.
 fn take_some(core: ReceiverCore, frame: &[u8], name: &[u8], area: &mut [u8]) -> Step
@@ -20,10 +21,13 @@ fn take_some(core: ReceiverCore, frame: &[u8], name: &[u8], area: &mut [u8]) -> 
 {
     let state = core.state;
     let keeping = core.keeping;
+    let reading = core.reading;
     match state {
         ReceiverState::Waiting => line::hear(core, frame, name, area),
         ReceiverState::Basic { size, kept } => frame::take_basic(size, kept, keeping, frame, area),
-        ReceiverState::Extended { crc } => frame::take_extended(crc, keeping, frame, area),
+        ReceiverState::Extended { crc } => {
+            frame::take_extended(reading, crc, keeping, frame, area)
+        }
         ReceiverState::Ended { outcome } => step::end(outcome, keeping, Out::Silent, 0),
     }
 }

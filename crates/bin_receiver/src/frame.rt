@@ -7,6 +7,7 @@ use calls::Entry;
 use calls::Keeping;
 use calls::Outcome;
 use calls::saving;
+use crc::Reading;
 use fields::Place;
 use fields::buffers;
 ghost use mathlib.Core.Path.{_≡_};
@@ -18,8 +19,8 @@ ghost use Rattle.bin.specs.Steps.{sorted, takesFrame, takesBasicFrame};
 ghost use Rattle.bin_receiver.specs.Step.{reached, reachedBy};
 
 // A frame of the file is stored directly behind the kept bytes, and is counted as kept in the same step.
-fn store(crc: u16, entry: Entry, frame: &[u8], area: &mut [u8]) -> Step
-    ensures { λ r. ⌜ ((name : List ℕ) → heldOf (Keeping.Of entry) name ≡ Keeping.Of entry → reached name (takesFrame crc (savedBy (Keeping.Of entry) name) (now (area .entry)) (now (frame .entry))) ≡ reachedBy (now (frame .entry)) name r (now (area .exit))) ⌝ }
+fn store(reading: Reading, crc: u16, entry: Entry, frame: &[u8], area: &mut [u8]) -> Step
+    ensures { λ r. ⌜ ((name : List ℕ) → heldOf (Keeping.Of entry) name ≡ Keeping.Of entry → reached name (takesFrame reading crc (savedBy (Keeping.Of entry) name) (now (area .entry)) (now (frame .entry))) ≡ reachedBy (now (frame .entry)) name r (now (area .exit))) ⌝ }
 {
     let stamp = entry.stamp;
     let from = entry.kept;
@@ -34,18 +35,18 @@ fn store(crc: u16, entry: Entry, frame: &[u8], area: &mut [u8]) -> Step
             stamp,
         };
         let name = Place { start: 0, len: 0 };
-        return step::judge_whole(crc, next, Out::Silent, n, name, area);
+        return step::judge_whole(reading, crc, next, Out::Silent, n, name, area);
     }
     step::end(Outcome::PastSize, Keeping::Of(entry), Out::Stop, 0)
 }
 
-fn store_kept(crc: u16, keeping: Keeping, frame: &[u8], area: &mut [u8]) -> Step
+fn store_kept(reading: Reading, crc: u16, keeping: Keeping, frame: &[u8], area: &mut [u8]) -> Step
     requires { ⌜ 0 < length (now frame) ⌝ }
-    ensures { λ r. ⌜ ((name : List ℕ) → heldOf keeping name ≡ keeping → reached name (takesFrame crc (savedBy keeping name) (now (area .entry)) (now (frame .entry))) ≡ reachedBy (now (frame .entry)) name r (now (area .exit))) ⌝ }
+    ensures { λ r. ⌜ ((name : List ℕ) → heldOf keeping name ≡ keeping → reached name (takesFrame reading crc (savedBy keeping name) (now (area .entry)) (now (frame .entry))) ≡ reachedBy (now (frame .entry)) name r (now (area .exit))) ⌝ }
 {
     match keeping {
         Keeping::Nothing => step::end(Outcome::PastSize, Keeping::Nothing, Out::Stop, 0),
-        Keeping::Of(e) => store(crc, e, frame, area),
+        Keeping::Of(e) => store(reading, crc, e, frame, area),
     }
 }
 
@@ -62,9 +63,15 @@ fn store_basic(size: u32, kept: u32, keeping: Keeping, frame: &[u8], area: &mut 
 }
 
 // A frame of an extended transfer that was accepted.
-pub fn take_extended(crc: u16, keeping: Keeping, frame: &[u8], area: &mut [u8]) -> Step
+pub fn take_extended(
+    reading: Reading,
+    crc: u16,
+    keeping: Keeping,
+    frame: &[u8],
+    area: &mut [u8],
+) -> Step
     requires { ⌜ 0 < length (now frame) ⌝ }
-    ensures { λ r. ⌜ ((name : List ℕ) → heldOf keeping name ≡ keeping → reached name (sorted (ReceiverState.Extended crc) (savedBy keeping name) (now (area .entry)) (now (frame .entry)) (takesFrame crc (savedBy keeping name) (now (area .entry)) (now (frame .entry)))) ≡ reachedBy (now (frame .entry)) name r (now (area .exit))) ⌝ }
+    ensures { λ r. ⌜ ((name : List ℕ) → heldOf keeping name ≡ keeping → reached name (sorted (ReceiverState.Extended crc) (savedBy keeping name) (now (area .entry)) (now (frame .entry)) (takesFrame reading crc (savedBy keeping name) (now (area .entry)) (now (frame .entry)))) ≡ reachedBy (now (frame .entry)) name r (now (area .exit))) ⌝ }
 {
     if lines::is_display(frame) {
         return step::go(ReceiverState::Extended { crc }, keeping, Out::Silent, 0);
@@ -72,7 +79,7 @@ pub fn take_extended(crc: u16, keeping: Keeping, frame: &[u8], area: &mut [u8]) 
     if lines::is_stop(frame) {
         return step::end(Outcome::Cancelled, keeping, Out::Silent, 0);
     }
-    store_kept(crc, keeping, frame, area)
+    store_kept(reading, crc, keeping, frame, area)
 }
 
 // The same in a basic transfer.

@@ -9,6 +9,7 @@ use calls::Outcome;
 use calls::RecordAnswer;
 use calls::Status;
 use calls::saving;
+use crc::Reading;
 use fields::Limits;
 use fields::Place;
 use fields::buffers;
@@ -58,9 +59,9 @@ impl Receiver {
     // The buffer that a record is written into has at least this many bytes.
     pub const LEAST_RECORD: usize = Limits::RECORD;
 
-    // A receiver with no record.
-    pub fn fresh(room: usize, resumes: bool) -> Self
-        ensures { λ r. ⌜ r ≡ freshOf room resumes ⌝ }
+    // A receiver with no record; the CRCs of an extended session go by the reading.
+    pub fn fresh(room: usize, resumes: bool, reading: Reading) -> Self
+        ensures { λ r. ⌜ r ≡ freshOf room resumes reading ⌝ }
     {
         Receiver {
             name: [0; 64],
@@ -68,14 +69,15 @@ impl Receiver {
                 state: ReceiverState::Waiting,
                 room,
                 resumes,
+                reading,
                 keeping: Keeping::Nothing,
             },
         }
     }
 
     // A beginning that is refused: an end that has ended, with no record.
-    fn ended(outcome: Outcome, room: usize, resumes: bool) -> Self
-        ensures { λ r. ⌜ r ≡ receiverWith (ReceiverState.Ended outcome) room resumes none ⌝ }
+    fn ended(outcome: Outcome, room: usize, resumes: bool, reading: Reading) -> Self
+        ensures { λ r. ⌜ r ≡ receiverWith (ReceiverState.Ended outcome) room resumes reading none ⌝ }
     {
         Receiver {
             name: [0; 64],
@@ -83,14 +85,15 @@ impl Receiver {
                 state: ReceiverState::Ended { outcome },
                 room,
                 resumes,
+                reading,
                 keeping: Keeping::Nothing,
             },
         }
     }
 
     // From a record; kept over size, or size over area, is 2.
-    fn saved(r: Record, bytes: &[u8], room: usize, resumes: bool) -> Self
-        ensures { λ m. ⌜ m ≡ withSaved room resumes (savedOf (now (bytes .entry)) r) ⌝ }
+    fn saved(r: Record, bytes: &[u8], room: usize, resumes: bool, reading: Reading) -> Self
+        ensures { λ m. ⌜ m ≡ withSaved room resumes reading (savedOf (now (bytes .entry)) r) ⌝ }
     {
         if saving::is_within(r.kept, r.size, room) {
             let place = r.name;
@@ -110,21 +113,22 @@ impl Receiver {
                     state: ReceiverState::Waiting,
                     room,
                     resumes,
+                    reading,
                     keeping: Keeping::Of(entry),
                 },
             };
         }
-        Receiver::ended(Outcome::RecordOver, room, resumes)
+        Receiver::ended(Outcome::RecordOver, room, resumes, reading)
     }
 
-    // A receiver with the record that these bytes are; unreadable ones are 1, a record out of its limits is 2.
-    pub fn resume(bytes: &[u8], room: usize, resumes: bool) -> Self
-        ensures { λ r. ⌜ r ≡ resumeOf (now (bytes .entry)) room resumes ⌝ }
+    // The same with the record that these bytes are; unreadable ones are 1, a record out of its limits is 2.
+    pub fn resume(bytes: &[u8], room: usize, resumes: bool, reading: Reading) -> Self
+        ensures { λ r. ⌜ r ≡ resumeOf (now (bytes .entry)) room resumes reading ⌝ }
     {
         let RecordRead::Good(r) = record_reader::record_of(bytes) else {
-            return Receiver::ended(Outcome::RecordUnreadable, room, resumes);
+            return Receiver::ended(Outcome::RecordUnreadable, room, resumes, reading);
         };
-        Receiver::saved(r, bytes, room, resumes)
+        Receiver::saved(r, bytes, room, resumes, reading)
     }
 
     // A call that changes nothing.
@@ -149,6 +153,8 @@ impl Receiver {
         let place = step.name;
         let state = step.state;
         let keeping = step.keeping;
+        let core = self.core;
+        let reading = core.reading;
         let next = fields::bytes_at(frame, place);
         let mut name = self.name;
         buffers::append_bytes(&mut name, 0, next);
@@ -160,6 +166,7 @@ impl Receiver {
                     state,
                     room: self.core.room,
                     resumes: self.core.resumes,
+                    reading,
                     keeping,
                 },
             },
@@ -187,12 +194,14 @@ impl Receiver {
         if calls::is_taken(status) {
             let state = core.state;
             let keeping = core.keeping;
+            let reading = core.reading;
             let name = self.name;
             let own = &name[..];
             let held = ReceiverCore {
                 state,
                 room: core.room,
                 resumes: core.resumes,
+                reading,
                 keeping: saving::held(keeping, own),
             };
             let step = arrivals::take(held, frame, own, area);

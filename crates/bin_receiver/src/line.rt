@@ -20,7 +20,8 @@ ghost use Prim.Native.Nat.{ℕ};
 ghost use Rattle.fields.specs.Lists.{bytesAt};
 ghost use Rattle.calls.specs.Saving.{savedBy, heldOf, matchesOf};
 ghost use Rattle.bin.specs.Steps.{heard, judgeRecord, judgeExtended, judgeBasic, receiverHears};
-ghost use Rattle.bin_receiver.specs.Step.{settingsBy, reached, reachedBy};
+ghost use Rattle.bin_receiver.specs.Receiver.{settingsBy};
+ghost use Rattle.bin_receiver.specs.Step.{reached, reachedBy};
 
 // The record of a line, with a kept count.
 fn entry_of(line: Line, frame: &[u8], kept: u32) -> Entry
@@ -69,9 +70,11 @@ fn resume_by(
     if both(line.resumable, core.resumes) {
         if matches(entry, line, frame, name) {
             let place = line.name;
-            let crc = crc::crc_of(fields::part(area, 0, kept as usize));
+            let reading = core.reading;
+            let crc = crc::crc_by(reading, fields::part(area, 0, kept as usize));
             let next = entry_of(line, frame, kept);
-            return step::judge_whole(line.crc, next, Out::ThirdOk { kept, crc }, 0, place, area);
+            let said = Out::ThirdOk { kept, crc };
+            return step::judge_whole(reading, line.crc, next, said, 0, place, area);
         }
         return step::end(Outcome::Differs, Keeping::Of(entry), Out::Differs, 0);
     }
@@ -89,8 +92,9 @@ fn judge_extended(core: ReceiverCore, line: Line, frame: &[u8], name: &[u8], are
     match keeping {
         Keeping::Nothing => {
             let place = line.name;
+            let reading = core.reading;
             let next = entry_of(line, frame, 0);
-            step::judge_whole(line.crc, next, Out::SecondOk, 0, place, area)
+            step::judge_whole(reading, line.crc, next, Out::SecondOk, 0, place, area)
         }
         Keeping::Of(e) => resume_by(core, e, line, frame, name, area),
     }

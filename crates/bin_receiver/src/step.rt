@@ -3,6 +3,7 @@ use bin::ReceiverState;
 use calls::Entry;
 use calls::Keeping;
 use calls::Outcome;
+use crc::Reading;
 use fields::Place;
 ghost use mathlib.Core.Path.{_≡_};
 ghost use mathlib.Core.List.{List, []};
@@ -22,6 +23,8 @@ pub struct ReceiverCore {
     pub room: usize,
     // Whether a record is resumed.
     pub resumes: bool,
+    // What the session's CRCs go by.
+    pub reading: Reading,
     pub keeping: Keeping,
 }
 
@@ -74,6 +77,7 @@ pub fn end(outcome: Outcome, keeping: Keeping, out: Out, stored: usize) -> Step
 
 // At the announced size it ends, and the whole CRC must agree. The record's name is the one that stands in the array afterwards.
 pub fn judge_whole(
+    reading: Reading,
     crc: u16,
     entry: Entry,
     out: Out,
@@ -81,11 +85,11 @@ pub fn judge_whole(
     name: Place,
     area: &[u8],
 ) -> Step
-    ensures { λ r. ⌜ ((f own n : List ℕ) → length n ≡ entry .named → appended 0 n own ≡ appended 0 (bytesAt f name) own → reached own (judgeWhole crc (some (record { size = entry .size; kept = entry .kept; stamp = entry .stamp; name = n })) (now (area .entry)) (framesOf (bytesAt f name) out) stored) ≡ reachedBy f own r (now (area .entry))) ⌝ }
+    ensures { λ r. ⌜ ((f own n : List ℕ) → length n ≡ entry .named → appended 0 n own ≡ appended 0 (bytesAt f name) own → reached own (judgeWhole reading crc (some (record { size = entry .size; kept = entry .kept; stamp = entry .stamp; name = n })) (now (area .entry)) (framesOf (bytesAt f name) out) stored) ≡ reachedBy f own r (now (area .entry))) ⌝ }
 {
     if entry.kept == entry.size {
         let size = entry.size as usize;
-        let own = crc::crc_of(fields::part(area, 0, size));
+        let own = crc::crc_by(reading, fields::part(area, 0, size));
         if own == crc {
             return Step {
                 state: ReceiverState::Ended {

@@ -12,6 +12,7 @@ use Rattle.calls.specs.declared.Outcome.the-variants.{NameOutside, LengthOutsid
 use Rattle.calls.specs.declared.Status.{Status}
 use Rattle.calls.specs.declared.Status.the-variants.{Taken}
 use Rattle.calls.specs.Checks.{checkOf, unless}
+use Rattle.crc.specs.declared.Reading.{Reading}
 use Rattle.bin.specs.declared.Announce.{Announce}
 use Rattle.bin.specs.declared.Announce.the-variants.{Basic, Extended}
 use Rattle.bin.specs.declared.SenderState.{SenderState}
@@ -44,9 +45,10 @@ within announce name size block =
 unfoldable pub beginBasic : ℕ → ℕ → Sender
 beginBasic size block = within Basic [] size block
 
--- an extended transfer; resumes says whether `?` is sent
-unfoldable pub begin : List ℕ → ℕ → ℕ → ℕ → Bool → Sender
-begin name size block stamp resumes = pick (isName name) (within (Extended stamp resumes) name size block) (refusedBegin NameOutside)
+-- an extended transfer; resumes says whether `?` is sent, and the session is set to a reading of the CRC (request 2026-06)
+unfoldable pub begin : List ℕ → ℕ → ℕ → ℕ → Bool → Reading → Sender
+begin name size block stamp resumes reading =
+    pick (isName name) (within (Extended stamp resumes reading) name size block) (refusedBegin NameOutside)
 
 -- ---- the calls
 

@@ -8,27 +8,29 @@ use calls::Outcome;
 use lines::Frame;
 use lines::line_reader;
 ghost use mathlib.Core.Path.{_≡_};
-ghost use mathlib.Core.Bool.{_&&_};
 ghost use Prim.Native.Nat.{_≤_};
-ghost use lib.ListN.{length, take};
-ghost use lib.Dec.{leb, eqb};
-ghost use Rattle.crc.specs.Crc.{crcOf};
-ghost use Rattle.bin.specs.Steps.{heard, announcesResume, resumesAt, senderHears, senderTakes};
+ghost use lib.ListN.{length};
+ghost use Rattle.bin.specs.Steps.{heard, isOurs, resumesAt, senderHears, senderTakes};
 ghost use Rattle.bin_sender.specs.Sender.{settingsOf};
 ghost use Rattle.bin_sender.specs.Step.{moveBy};
 
 // Whether a third OK fits what was announced and the file's own beginning.
 fn is_ours(sender: Sender, file: &[u8], kept: u32, crc: u16) -> bool
-    ensures { λ r. ⌜ r ≡ (announcesResume (sender .core .announce) && (leb kept (sender .core .size) && eqb (crcOf (take kept (now (file .entry)))) crc)) ⌝ }
+    ensures { λ r. ⌜ r ≡ isOurs (settingsOf sender) (now (file .entry)) (sender .core .announce) kept crc ⌝ }
 {
     let core = sender.core;
     let announce = core.announce;
-    let Announce::Extended { stamp: _, resumes } = announce else {
+    let Announce::Extended {
+        stamp: _,
+        resumes,
+        reading,
+    } = announce
+    else {
         return false;
     };
     if resumes {
         if kept <= core.size {
-            return crc::crc_of(fields::part(file, 0, kept as usize)) == crc;
+            return crc::crc_by(reading, fields::part(file, 0, kept as usize)) == crc;
         }
         return false;
     }

@@ -5,6 +5,7 @@ use bin::Announce;
 use bin::SenderState;
 use calls::Outcome;
 use calls::Status;
+use crc::Reading;
 use fields::Limits;
 use fields::buffers;
 use fields::names;
@@ -83,12 +84,24 @@ impl Sender {
         }
     }
 
-    // A sender of an extended transfer; resumes says whether `?` is sent. One that is refused (3, 4, 5) has ended.
-    pub fn begin(name: &[u8], size: usize, block: usize, stamp: u32, resumes: bool) -> Self
-        ensures { λ r. ⌜ r ≡ beginOf (now (name .entry)) size block stamp resumes ⌝ }
+    // A sender of an extended transfer; resumes says whether `?` is sent, reading which reading the session's CRCs go by. One that is refused
+    // (3, 4, 5) has ended.
+    pub fn begin(
+        name: &[u8],
+        size: usize,
+        block: usize,
+        stamp: u32,
+        resumes: bool,
+        reading: Reading,
+    ) -> Self
+        ensures { λ r. ⌜ r ≡ beginOf (now (name .entry)) size block stamp resumes reading ⌝ }
     {
         if names::is_name(name) {
-            let announce = Announce::Extended { stamp, resumes };
+            let announce = Announce::Extended {
+                stamp,
+                resumes,
+                reading,
+            };
             return Sender::within(announce, name, size, block);
         }
         Sender::ended(Outcome::NameOutside)

@@ -21,11 +21,15 @@ fn put_line(sender: Sender, file: &[u8], reply: &mut [u8]) -> usize
     let announce = core.announce;
     match announce {
         Announce::Basic => calls::count(file_line::write_basic(reply, core.size)),
-        Announce::Extended { stamp, resumes } => {
+        Announce::Extended {
+            stamp,
+            resumes,
+            reading,
+        } => {
             let name = sender.name;
             let all = &name[..];
             let own = fields::part(all, 0, core.named);
-            let crc = crc::crc_of(file);
+            let crc = crc::crc_by(reading, file);
             calls::count(file_line::write_line(reply, core.size, crc, stamp, resumes, own))
         }
     }

@@ -4,7 +4,7 @@
 use Prim.Native.Nat.{ℕ, suc, _≤_, _<_, _^_}
 use mathlib.Core.Path.{_≡_}
 use mathlib.Core.Bool.{Bool, true, false}
-use mathlib.Core.List.{List, _++_, flatten}
+use mathlib.Core.List.{List, [], _∷_, _++_, flatten}
 use lib.ListN.{length, getD}
 use Rattle.fields.specs.Name.{isName}
 use Rattle.fields.specs.Lists.{all, bytesAt}
@@ -14,9 +14,12 @@ use Rattle.numbers.specs.Writing.{decimal, hex, little}
 use Rattle.numbers.specs.Reading.{readDecimal, readHex, readLittle}
 use Rattle.numbers.specs.Canonical.{plain, capitals, isByte}
 use Rattle.numbers.proofs.RoundTrip as numbers
-use Rattle.crc.specs.Crc.{table, entry, crcOf, walkFrom}
+use Rattle.crc.specs.declared.Reading.{Reading}
+use Rattle.crc.specs.declared.Reading.the-variants.{Bare, Augmented}
+use Rattle.crc.specs.Crc.{table, entry, crcBy, walkFrom}
 use Rattle.crc.proofs.Table as crc-table
 use Rattle.crc.proofs.Laws as crc
+use Rattle.crc.proofs.Augmented as readings
 use Rattle.packets.specs.declared.Header.{Header}
 use Rattle.packets.specs.declared.Resume.{Resume}
 use Rattle.packets.specs.declared.Block.{Block}
@@ -55,7 +58,8 @@ use Rattle.transfers.proofs.Examples.{Agree, examples}
 use Rattle.transfers.proofs.Examples as worked
 
 -- ---- DEMAND 3 (crates/transfers). Of every file, name and area within document 01's limits (World) and every list of sessions, each by YAPP or
--- extended #BIN#, each a list of calls of any kind at its two ends over a link that keeps bytes and their order (FairIn, FairAll):
+-- extended #BIN# (set to one reading of the CRC at both ends, from session to session as they like), each a list of calls of any kind at its
+-- two ends over a link that keeps bytes and their order (FairIn, FairAll):
 
 -- after every call the kept bytes are the file's beginning, as many as came less each fall at RE, and the record says how many; every byte past the
 -- file's length is as before the first session, and no byte changes but to the file's own, where it came (Safe)
@@ -190,9 +194,13 @@ lists = listings.lists
 pub remainders : (i : ℕ) → i < 256 → getD table i 0 ≡ entry i
 remainders = crc-table.table-at
 
--- the CRC of a ++ b is the walk over b from the CRC of a
-pub crc-append : (a b : List ℕ) → crcOf (a ++ b) ≡ walkFrom (crcOf a) b
+-- by either reading the CRC of a ++ b is the walk over b from the CRC of a
+pub crc-append : (q : Reading) (a b : List ℕ) → crcBy q (a ++ b) ≡ walkFrom q (crcBy q a) b
 crc-append = crc.crc-append
+
+-- the new reading of any file is the old one of the file with two zero bytes behind it
+pub two-readings : (s : List ℕ) → ((i : ℕ) → getD s i 0 < 256) → crcBy Augmented s ≡ crcBy Bare (s ++ (0 ∷ 0 ∷ []))
+two-readings = readings.augmented
 
 -- ---- NUMBERS IN DIGITS AND BYTES (crates/numbers), once over the width
 

@@ -3,3 +3,4 @@ pub mod Laws
 pub mod Xor
 pub mod Times
 pub mod Eight
+pub mod Augmented

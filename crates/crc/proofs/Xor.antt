@@ -44,6 +44,9 @@ xor-assoc a =
 pub xor-double : (a b : ℕ) → bitXor (a * 2) (b * 2) ≡ bitXor a b * 2
 xor-double a b = simp add-zero at (xor-block 1 a b 0 0 (lit< tt) (lit< tt))
 
+pub xor-swap : (a b c : ℕ) → bitXor (bitXor a b) c ≡ bitXor (bitXor a c) b
+xor-swap a b c = xor-assoc a b c ∙ ap (bitXor a) (xor-comm b c) ∙ sym (xor-assoc a c b)
+
 -- a xor d, xor b xor d: the two d go
 pub xor-cancel : (a b d : ℕ) → bitXor (bitXor a d) (bitXor b d) ≡ bitXor a b
 xor-cancel a b d = rw (xor-assoc a d (bitXor b d), xor-comm d (bitXor b d), xor-assoc b d d, xor-self d, xor-zero-r b) refl

@@ -1,8 +1,16 @@
-// The CRC of #BIN#, by the table of remainders.
+// The CRC of #BIN#, by the table of remainders, in the two readings of request 2026-06.
 ghost use mathlib.Core.Path.{_≡_};
-ghost use Rattle.crc.specs.Crc.{entry, table, byteStep, walkFrom, crcOf};
+ghost use Rattle.crc.specs.Crc.{entry, table, byteStep, walkFrom, crcBy};
 
 mod rows;
+
+// How the bytes go in (request 2026-06: the old and the new reading). A session is set to one of them.
+pub enum Reading {
+    // Document 01's: the remainder of the file itself.
+    Bare,
+    // The remainder of the file with two zero bytes behind it, computed without them.
+    Augmented,
+}
 
 // Source document 003's table: entry i is the remainder of i times x^16 by x^16 + x^12 + x^5 + 1. The program `run_crc` prints it in that
 // document's layout.
@@ -282,22 +290,25 @@ pub fn entry(i: u8) -> u16
 }
 
 // One byte, by the table that the caller holds: a constant indexed here would be copied at every byte.
-fn step(t: &[u16; 256], r: u16, c: u8) -> u16
+fn step(t: &[u16; 256], reading: Reading, r: u16, c: u8) -> u16
     requires { ⌜ now t ≡ table ⌝ }
-    ensures { λ x. ⌜ x ≡ byteStep r c ⌝ }
+    ensures { λ x. ⌜ x ≡ byteStep reading r c ⌝ }
 {
-    t[(r / 256) as usize] ^ (r % 256 * 256) ^ (c as u16)
+    match reading {
+        Reading::Bare => t[(r / 256) as usize] ^ (r % 256 * 256) ^ (c as u16),
+        Reading::Augmented => t[((r / 256) ^ (c as u16)) as usize] ^ (r % 256 * 256),
+    }
 }
 
 // The walk, by the table that the caller holds.
-fn walk_by(t: &[u16; 256], r: u16, s: &[u8]) -> u16
+fn walk_by(t: &[u16; 256], reading: Reading, r: u16, s: &[u8]) -> u16
     requires { ⌜ now t ≡ table ⌝ }
-    ensures { λ x. ⌜ x ≡ walkFrom r (now (s .entry)) ⌝ }
+    ensures { λ x. ⌜ x ≡ walkFrom reading r (now (s .entry)) ⌝ }
 {
     let mut crc = r;
     let mut i = 0;
     while i < s.len() {
-        crc = step(t, crc, s[i]);
+        crc = step(t, reading, crc, s[i]);
         i += 1;
     }
     crc
@@ -306,20 +317,20 @@ fn walk_by(t: &[u16; 256], r: u16, s: &[u8]) -> u16
 // From this length on the walk by eight bytes at a time, whose rows are made first, is faster.
 const LONG: usize = 4096;
 
-// The CRC goes on over s from the value r.
-pub fn walk(r: u16, s: &[u8]) -> u16
-    ensures { λ x. ⌜ x ≡ walkFrom r (now (s .entry)) ⌝ }
+// The CRC by a reading goes on over s from the value r.
+pub fn walk(reading: Reading, r: u16, s: &[u8]) -> u16
+    ensures { λ x. ⌜ x ≡ walkFrom reading r (now (s .entry)) ⌝ }
 {
     if s.len() < LONG {
         let t = remainders();
-        return walk_by(&t, r, s);
+        return walk_by(&t, reading, r, s);
     }
-    rows::walk(r, s)
+    rows::walk(reading, r, s)
 }
 
-// The CRC of s.
-pub fn crc_of(s: &[u8]) -> u16
-    ensures { λ x. ⌜ x ≡ crcOf (now (s .entry)) ⌝ }
+// The CRC of s by a reading.
+pub fn crc_by(reading: Reading, s: &[u8]) -> u16
+    ensures { λ x. ⌜ x ≡ crcBy reading (now (s .entry)) ⌝ }
 {
-    walk(0, s)
+    walk(reading, 0, s)
 }

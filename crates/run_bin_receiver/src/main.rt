@@ -4,6 +4,8 @@
 //
 //     fresh ROOM ?                      a receiver with no record, and an area of 32 bytes EE; `-` for `?` is no resume
 //     resume RECORD ROOM ?              a receiver with a record, and the area as it is
+//     fresh ROOM ? augmented            the same two, with CRCs by the reading of request 2026-06; without that word they go by document 01's
+//     resume RECORD ROOM ? augmented
 //     leave, frame BYTES, timer, stop   a call, with a reply buffer of 259 bytes
 //     258 CALL                          the same call with one of 258 bytes
 //     record                            the record, written into 81 bytes
@@ -15,6 +17,7 @@ use bin::ReceiverState;
 use bin_receiver::Receiver;
 use bin_receiver::ReceiverAnswer;
 use calls::Status;
+use crc::Reading;
 use fields::buffers;
 use libc::STDIN_FILENO;
 use script::printing::put;
@@ -75,8 +78,21 @@ fn show(got: ReceiverAnswer, frame: &[u8], reply: &[u8]) {
 
 // ---- Beginnings
 
+// The reading that the word at this index says.
+fn reading_at(line: &[u8], i: usize) -> Reading {
+    if is_word(line, i, b"augmented") {
+        return Reading::Augmented;
+    }
+    Reading::Bare
+}
+
 fn resume_from(record: &[u8], line: &[u8]) -> Receiver {
-    Receiver::resume(record, number(word(line, 2)), is_word(line, 3, b"?"))
+    Receiver::resume(
+        record,
+        number(word(line, 2)),
+        is_word(line, 3, b"?"),
+        reading_at(line, 4),
+    )
 }
 
 fn begin_resume(line: &[u8]) -> Receiver {
@@ -92,7 +108,11 @@ fn begin(which: usize, line: &[u8], area: &mut [u8]) -> Receiver {
     }
     let filled = [0xEE; 32];
     buffers::append_bytes(area, 0, &filled);
-    Receiver::fresh(number(word(line, 1)), is_word(line, 2, b"?"))
+    Receiver::fresh(
+        number(word(line, 1)),
+        is_word(line, 2, b"?"),
+        reading_at(line, 3),
+    )
 }
 
 fn put_begun(m: Receiver) {
@@ -185,7 +205,7 @@ fn turn(m: Receiver, line: &[u8], area: &mut [u8]) -> Receiver {
 fn run(script: &[u8]) {
     let mut space = [0xEE; 32];
     let area: &mut [u8] = &mut space;
-    let mut m = Receiver::fresh(32, false);
+    let mut m = Receiver::fresh(32, false, Reading::Bare);
     let mut rest = script;
     while 0 < rest.len() {
         let line = before(rest, b'\n');

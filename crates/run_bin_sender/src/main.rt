@@ -1,7 +1,8 @@
 // Plays a script of calls at a #BIN# sender. Each line of the script is printed, and behind a call what came of it: the number that refused
 // it, the state, the frame that is sent, and where the reply buffer is not what it was before the call, byte by byte.
 //
-//     extended NAME SIZE BLOCK ? FILE   a sender of an extended transfer; the stamp is 5A214800; `-` for `?` is no resume
+//     extended NAME SIZE BLOCK ? FILE   a sender of an extended transfer; the stamp is 5A214800; `-` for `?` is no resume; its CRCs go by
+//                                       document 01's reading, and by that of request 2026-06 where `augmented` stands behind FILE
 //     basic SIZE BLOCK FILE             a sender of a basic transfer
 //     leave, frame BYTES, timer, stop   a call, with a reply buffer of 259 bytes
 //     258 CALL                          the same call with one of 258 bytes
@@ -12,6 +13,7 @@ use bin::SenderState;
 use bin_sender::Sender;
 use bin_sender::SenderAnswer;
 use calls::Status;
+use crc::Reading;
 use libc::STDIN_FILENO;
 use script::printing::put;
 use script::printing::put_number;
@@ -59,6 +61,14 @@ fn put_begun(m: Sender) {
 
 // ---- Beginnings
 
+// The reading that the word at this index says.
+fn reading_at(line: &[u8], i: usize) -> Reading {
+    if is_word(line, i, b"augmented") {
+        return Reading::Augmented;
+    }
+    Reading::Bare
+}
+
 fn begin_named(name: &[u8], line: &[u8]) -> Sender {
     Sender::begin(
         name,
@@ -66,6 +76,7 @@ fn begin_named(name: &[u8], line: &[u8]) -> Sender {
         number(word(line, 3)),
         0x5A21_4800,
         is_word(line, 4, b"?"),
+        reading_at(line, 6),
     )
 }
 

@@ -1,6 +1,5 @@
 -- Laws of a session, whatever the ends are: turns one by one, and what is left. Assumes nothing.
 use mathlib.Core.Path.{_≡_, refl, ap, _∙_}
-use mathlib.Core.Bool.{Bool, _&&_}
 use mathlib.Core.List.{List}
 use mathlib.Core.Option.{Option}
 use Prim.Native.Nat.{ℕ, _+_}
@@ -11,7 +10,6 @@ use Rattle.calls.specs.Count.{recordCount}
 use Rattle.calls.specs.Recording.{recordAnswer, recordLeft}
 use Rattle.calls.specs.declared.RecordAnswer.{RecordAnswer}
 use Rattle.run_cuts.specs.Link.{savedWith, turns}
-use Rattle.run_cuts.specs.declared.link.Saved.{Saved}
 
 module _ {A : Type 0} (turn : A → A) where
   pub turns-none : (x : A) → x ≡ turns turn 0 x
@@ -27,16 +25,8 @@ module _ {A : Type 0} (turn : A → A) where
   pub turns-all : (n i : ℕ) (start from x : A) → start ≡ from → x ≡ turns turn i start → i ≡ n → x ≡ turns turn n from
   turns-all n i start from x hs hx hi = hx ∙ ap (λ (k : ℕ). turns turn k start) hi ∙ ap (turns turn n) hs
 
-module _ (area bytes : List ℕ) (form : Option Form) (got : RecordAnswer) (len : ℕ) (sent received success : Bool) where
-  saved : List ℕ → ℕ → Bool → Saved
-  saved b n w = record { area = area; bytes = b; len = n; success = w }
-
-  pub left-is : {s r : Bool} → bytes ≡ recordLeft form (replicate 81 0) → got ≡ recordAnswer form (replicate 81 0) → len ≡ recordCount got
-      → sent ≡ s → received ≡ r → success ≡ sent && received
-      → record { area = area; bytes = bytes; len = len; success = success } ≡ savedWith area form s r
-  unfolding saved
-  left-is {s} {r} hb hg hn hs hr hw =
-      let n = hn ∙ ap recordCount hg in
-      let w = hw ∙ ap (λ (x : Bool). x && received) hs ∙ ap (λ (x : Bool). s && x) hr in
-      ap (λ (x : List ℕ). saved x len success) hb ∙ ap (λ (x : ℕ). saved (recordLeft form (replicate 81 0)) x success) n
-      ∙ ap (saved (recordLeft form (replicate 81 0)) (recordCount (recordAnswer form (replicate 81 0)))) w
+module _ (area bytes : List ℕ) (form : Option Form) (got : RecordAnswer) (len sent received : ℕ) where
+  pub left-is : {s r : ℕ} → bytes ≡ recordLeft form (replicate 81 0) → got ≡ recordAnswer form (replicate 81 0) → len ≡ recordCount got
+      → sent ≡ s → received ≡ r
+      → record { area = area; bytes = bytes; len = len; sender = sent; receiver = received } ≡ savedWith area form s r
+  left-is hb hg hn hs hr = rw (hb, hn, hg, hs, hr)

@@ -1,10 +1,12 @@
 -- A session of #BIN# over a link that breaks, by what the two ends' calls are defined to leave. A frame that is cut is handed over as a frame.
 use Prim.Native.Nat.{ℕ, _-_}
-use mathlib.Core.Bool.{Bool, true, false}
+use mathlib.Core.Bool.{true}
 use mathlib.Core.List.{List}
 use lib.ListN.{length}
 use lib.Dec.{eqb}
 use Rattle.fields.specs.Pick.{pick}
+use Rattle.calls.specs.Numbers.{outcomeNumber}
+use Rattle.crc.specs.declared.Reading.{Reading}
 use Rattle.bin.specs.declared.SenderState.{SenderState}
 use Rattle.bin.specs.declared.SenderState.the-variants.{Start, Wait, Send, Ended}
 use Rattle.bin.specs.declared.ReceiverState.{ReceiverState}
@@ -13,21 +15,22 @@ use Rattle.bin_sender.specs.declared.Sender.{Sender}
 use Rattle.bin_sender.specs.Sender.{SenderAfter, begin as beginSender, transmit, receive as senderReceives}
 use Rattle.bin_receiver.specs.declared.Receiver.{Receiver}
 use Rattle.bin_receiver.specs.Receiver.{ReceiverAfter, fresh, resume, receive as receiverReceives, recordBy}
-use Rattle.run_cuts.specs.Link.{fileName, fileStamp, recordIn, savedWith, isSuccess, begin as beginLink, passed, heard, carries, turns}
+use Rattle.run_cuts.specs.Link.{fileName, fileStamp, recordIn, running, savedWith, begin as beginLink, passed, heard, carries, turns}
 use Rattle.run_cuts.specs.declared.link.Saved.{Saved}
+use Rattle.run_cuts.specs.declared.bin_link.Readings.{Readings}
 use Rattle.run_cuts.specs.declared.bin_link.Ends.{Ends}
 
 -- ---- the beginning
 
 -- with the record, where there is one
-unfoldable pub receiverOf : Saved → Receiver
-receiverOf s = pick (eqb (s .len) 0) (fresh 320 true) (resume (recordIn s) 320 true)
+unfoldable pub receiverOf : Saved → Reading → Receiver
+receiverOf s reading = pick (eqb (s .len) 0) (fresh 320 true reading) (resume (recordIn s) 320 true reading)
 
 -- the ends of a file of `size` bytes in frames of block bytes, over a link that breaks behind `bytes` bytes
-unfoldable pub begin : Saved → ℕ → ℕ → ℕ → Ends
-begin before bytes block size = record {
-  sender = beginSender fileName size block fileStamp true;
-  receiver = receiverOf before;
+unfoldable pub begin : Saved → ℕ → ℕ → Readings → ℕ → Ends
+begin before bytes block readings size = record {
+  sender = beginSender fileName size block fileStamp true (readings .sender);
+  receiver = receiverOf before (readings .receiver);
   link = beginLink before bytes;
 }
 
@@ -56,24 +59,24 @@ turn file e = received e (carries (e .link)) (send (e .sender) (e .link .answere
 
 -- ---- the end
 
--- ended with success
-abbrev pub isSent : SenderState → Bool
-isSent Start = false
-isSent Wait = false
-isSent (Send at) = false
-isSent (Ended o) = isSuccess o
+-- the number that an end ended with
+abbrev pub senderNumber : SenderState → ℕ
+senderNumber Start = running
+senderNumber Wait = running
+senderNumber (Send at) = running
+senderNumber (Ended o) = outcomeNumber o
 
-abbrev pub isReceived : ReceiverState → Bool
-isReceived Waiting = false
-isReceived (Basic size kept) = false
-isReceived (Extended crc) = false
-isReceived (ReceiverEnded o) = isSuccess o
+abbrev pub receiverNumber : ReceiverState → ℕ
+receiverNumber Waiting = running
+receiverNumber (Basic size kept) = running
+receiverNumber (Extended crc) = running
+receiverNumber (ReceiverEnded o) = outcomeNumber o
 
 -- what the ends leave
 unfoldable pub savedAfter : Ends → Saved
 savedAfter e =
-    savedWith (e .link .area) (recordBy (e .receiver)) (isSent (e .sender .core .state)) (isReceived (e .receiver .core .state))
+    savedWith (e .link .area) (recordBy (e .receiver)) (senderNumber (e .sender .core .state)) (receiverNumber (e .receiver .core .state))
 
 -- what 29 turns leave
-unfoldable pub session : Saved → ℕ → ℕ → List ℕ → Saved
-session before bytes block file = savedAfter (turns (turn file) 29 (begin before bytes block (length file)))
+unfoldable pub session : Saved → ℕ → ℕ → Readings → List ℕ → Saved
+session before bytes block readings file = savedAfter (turns (turn file) 29 (begin before bytes block readings (length file)))

@@ -1,6 +1,6 @@
 -- What a session over a link that breaks leaves, and what is asked of it.
 use Prim.Native.Nat.{ℕ, zero, suc, _-_, min}
-use mathlib.Core.Bool.{Bool, false, _&&_}
+use mathlib.Core.Bool.{Bool, _&&_}
 use mathlib.Core.List.{List, [], _∷_}
 use mathlib.Core.Option.{Option}
 use lib.ListN.{length, take, replicate}
@@ -12,9 +12,7 @@ use Rattle.fields.specs.declared.Stamp.the-variants.{Present}
 use Rattle.records.specs.Record.{numberAt}
 use Rattle.records.specs.Saved.{saved, recordBytes}
 use Rattle.calls.specs.Count.{recordCount}
-use Rattle.calls.specs.Numbers.{outcomeNumber}
 use Rattle.calls.specs.Recording.{recordAnswer, recordLeft}
-use Rattle.calls.specs.declared.Outcome.{Outcome}
 use Rattle.run_cuts.specs.declared.link.Saved.{Saved}
 use Rattle.run_cuts.specs.declared.link.Link.{Link}
 
@@ -32,22 +30,23 @@ fileStamp = 0x5A214800
 abbrev pub untouched : List ℕ
 untouched = replicate 320 0xEE
 
+-- stands in the place of document 01's number for an end that has not ended
+abbrev pub running : ℕ
+running = 255
+
 -- before the first session
 abbrev pub nothing : Saved
-nothing = record { area = untouched; bytes = replicate 81 0; len = 0; success = false }
+nothing = record { area = untouched; bytes = replicate 81 0; len = 0; sender = running; receiver = running }
 
--- the area, the record as its form is written into 81 bytes, and whether both ends ended with success
-abbrev pub savedWith : List ℕ → Option Form → Bool → Bool → Saved
-savedWith area form sent received = record {
+-- the area, the record as its form is written into 81 bytes, and the numbers that the two ends ended with
+abbrev pub savedWith : List ℕ → Option Form → ℕ → ℕ → Saved
+savedWith area form sender receiver = record {
   area = area;
   bytes = recordLeft form (replicate 81 0);
   len = recordCount (recordAnswer form (replicate 81 0));
-  success = sent && received;
+  sender = sender;
+  receiver = receiver;
 }
-
--- document 01's number 0
-abbrev pub isSuccess : Outcome → Bool
-isSuccess o = eqb (outcomeNumber o) 0
 
 -- ---- the link
 
@@ -99,6 +98,10 @@ unfoldable pub isSound : Saved → List ℕ → Bool
 isSound s file =
     pick (eqb (s .len) 0) (holds (s .area) file 0) (isOfFile (recordIn s) file && holds (s .area) file (kept s))
 
--- both ends ended with success, and the area has the whole file; an empty one needs no record
+-- both ends ended with success
+abbrev pub isSuccess : Saved → Bool
+isSuccess s = eqb (s .sender) 0 && eqb (s .receiver) 0
+
+-- they did, and the area has the whole file; an empty one needs no record
 unfoldable pub isWhole : Saved → List ℕ → Bool
-isWhole s file = s .success && (eqb (kept s) (length file) && isSound s file)
+isWhole s file = isSuccess s && (eqb (kept s) (length file) && isSound s file)

@@ -1,11 +1,12 @@
 -- A session of YAPP over a link that breaks, by what the two ends' calls are defined to leave.
 use Prim.Native.Nat.{ℕ, _-_}
-use mathlib.Core.Bool.{Bool, true, false}
+use mathlib.Core.Bool.{Bool, true}
 use mathlib.Core.List.{List}
 use lib.ListN.{length}
 use lib.Dec.{eqb}
 use Rattle.fields.specs.Pick.{pick}
 use Rattle.fields.specs.declared.Stamp.the-variants.{Present}
+use Rattle.calls.specs.Numbers.{outcomeNumber}
 use Rattle.yapp.specs.declared.SenderState.{SenderState}
 use Rattle.yapp.specs.declared.SenderState.the-variants.{S, SH, SD, SE, ST, CW, Ended}
 use Rattle.yapp.specs.declared.ReceiverState.{ReceiverState}
@@ -14,7 +15,7 @@ use Rattle.yapp_sender.specs.declared.Sender.{Sender}
 use Rattle.yapp_sender.specs.Sender.{SenderAfter, begin as beginSender, transmit, receive as senderReceives}
 use Rattle.yapp_receiver.specs.declared.Receiver.{Receiver}
 use Rattle.yapp_receiver.specs.Receiver.{ReceiverAfter, fresh, resume, receive as receiverReceives, recordBy}
-use Rattle.run_cuts.specs.Link.{fileName, fileStamp, recordIn, savedWith, isSuccess, begin as beginLink, passed, heard, carries, turns}
+use Rattle.run_cuts.specs.Link.{fileName, fileStamp, recordIn, running, savedWith, begin as beginLink, passed, heard, carries, turns}
 use Rattle.run_cuts.specs.declared.link.Saved.{Saved}
 use Rattle.run_cuts.specs.declared.yapp_link.Ends.{Ends}
 
@@ -57,27 +58,27 @@ turn file e = received e (carries (e .link)) (send (e .sender) (e .link .answere
 
 -- ---- the end
 
--- ended with success
-abbrev pub isSent : SenderState → Bool
-isSent (S begun timeouts) = false
-isSent SH = false
-isSent (SD at) = false
-isSent SE = false
-isSent ST = false
-isSent (CW o) = false
-isSent (Ended o) = isSuccess o
+-- the number that an end ended with
+abbrev pub senderNumber : SenderState → ℕ
+senderNumber (S begun timeouts) = running
+senderNumber SH = running
+senderNumber (SD at) = running
+senderNumber SE = running
+senderNumber ST = running
+senderNumber (CW o) = running
+senderNumber (Ended o) = outcomeNumber o
 
-abbrev pub isReceived : ReceiverState → Bool
-isReceived R = false
-isReceived (RH whole) = false
-isReceived RD = false
-isReceived (ReceiverCW o) = false
-isReceived (ReceiverEnded o) = isSuccess o
+abbrev pub receiverNumber : ReceiverState → ℕ
+receiverNumber R = running
+receiverNumber (RH whole) = running
+receiverNumber RD = running
+receiverNumber (ReceiverCW o) = running
+receiverNumber (ReceiverEnded o) = outcomeNumber o
 
 -- what the ends leave
 unfoldable pub savedAfter : Ends → Saved
 savedAfter e =
-    savedWith (e .link .area) (recordBy (e .receiver)) (isSent (e .sender .core .state)) (isReceived (e .receiver .core .state))
+    savedWith (e .link .area) (recordBy (e .receiver)) (senderNumber (e .sender .core .state)) (receiverNumber (e .receiver .core .state))
 
 -- what nine turns leave
 unfoldable pub session : Saved → ℕ → Bool → List ℕ → Saved

@@ -8,10 +8,18 @@ use bin_receiver::Receiver;
 use bin_receiver::ReceiverAnswer;
 use bin_sender::Sender;
 use bin_sender::SenderAnswer;
+use calls::outcomes;
+use crc::Reading;
 use script::printing::put_text;
 ghost use mathlib.Core.Path.{_≡_};
 ghost use Rattle.bin_receiver.specs.Receiver.{receive as receiveOf};
-ghost use Rattle.run_cuts.specs.BinLink.{receiverOf, begin as beginOf, send as sendOf, turn as turnOf, isSent, isReceived, savedAfter, session as sessionOf};
+ghost use Rattle.run_cuts.specs.BinLink.{receiverOf, begin as beginOf, send as sendOf, turn as turnOf, senderNumber, receiverNumber, savedAfter, session as sessionOf};
+
+// The reading of the CRC that each end is set to.
+pub struct Readings {
+    pub sender: Reading,
+    pub receiver: Reading,
+}
 
 // What stands between two turns.
 struct Ends {
@@ -20,22 +28,24 @@ struct Ends {
     link: Link,
 }
 
-fn receiver_of(s: Saved) -> Receiver
-    ensures { λ r. ⌜ r ≡ receiverOf s ⌝ }
+fn receiver_of(s: Saved, reading: Reading) -> Receiver
+    ensures { λ r. ⌜ r ≡ receiverOf s reading ⌝ }
 {
     let bytes = s.bytes;
     if s.len == 0 {
-        return Receiver::fresh(320, true);
+        return Receiver::fresh(320, true, reading);
     }
-    Receiver::resume(fields::part(&bytes, 0, s.len), 320, true)
+    Receiver::resume(fields::part(&bytes, 0, s.len), 320, true, reading)
 }
 
-fn begin(before: Saved, bytes: usize, block: usize, size: usize) -> Ends
-    ensures { λ r. ⌜ r ≡ beginOf before bytes block size ⌝ }
+fn begin(before: Saved, bytes: usize, block: usize, readings: Readings, size: usize) -> Ends
+    ensures { λ r. ⌜ r ≡ beginOf before bytes block readings size ⌝ }
 {
+    let sends = readings.sender;
+    let receives = readings.receiver;
     Ends {
-        sender: Sender::begin(b"abc.txt", size, block, 0x5A21_4800, true),
-        receiver: receiver_of(before),
+        sender: Sender::begin(b"abc.txt", size, block, 0x5A21_4800, true, sends),
+        receiver: receiver_of(before, receives),
         link: link::begin(before, bytes),
     }
 }
@@ -96,25 +106,25 @@ fn turn(e: Ends, is_shown: bool, number: usize, file: &[u8]) -> Ends
     }
 }
 
-fn is_sent(state: SenderState) -> bool
-    ensures { λ r. ⌜ r ≡ isSent state ⌝ }
+fn sender_number(state: SenderState) -> u8
+    ensures { λ r. ⌜ r ≡ senderNumber state ⌝ }
 {
     match state {
-        SenderState::Start => false,
-        SenderState::Wait => false,
-        SenderState::Send { .. } => false,
-        SenderState::Ended { outcome } => link::is_success(outcome),
+        SenderState::Start => link::RUNNING,
+        SenderState::Wait => link::RUNNING,
+        SenderState::Send { .. } => link::RUNNING,
+        SenderState::Ended { outcome } => outcomes::outcome_number(outcome),
     }
 }
 
-fn is_received(state: ReceiverState) -> bool
-    ensures { λ r. ⌜ r ≡ isReceived state ⌝ }
+fn receiver_number(state: ReceiverState) -> u8
+    ensures { λ r. ⌜ r ≡ receiverNumber state ⌝ }
 {
     match state {
-        ReceiverState::Waiting => false,
-        ReceiverState::Basic { .. } => false,
-        ReceiverState::Extended { .. } => false,
-        ReceiverState::Ended { outcome } => link::is_success(outcome),
+        ReceiverState::Waiting => link::RUNNING,
+        ReceiverState::Basic { .. } => link::RUNNING,
+        ReceiverState::Extended { .. } => link::RUNNING,
+        ReceiverState::Ended { outcome } => outcomes::outcome_number(outcome),
     }
 }
 
@@ -129,16 +139,24 @@ fn saved_after(e: Ends) -> Saved
         area,
         bytes,
         len: calls::record_count(got),
-        success: link::both(is_sent(e.sender.state()), is_received(e.receiver.state())),
+        sender: sender_number(e.sender.state()),
+        receiver: receiver_number(e.receiver.state()),
     }
 }
 
 // Goes on from what a session left, with frames of so many bytes. So many bytes pass before the link breaks.
 // The line, a turn to hear what came of it, and a turn for each frame: a file has at most 27 bytes.
-pub fn session(before: Saved, bytes: usize, block: usize, is_shown: bool, file: &[u8]) -> Saved
-    ensures { λ r. ⌜ r ≡ sessionOf before bytes block (now (file .entry)) ⌝ }
+pub fn session(
+    before: Saved,
+    bytes: usize,
+    block: usize,
+    readings: Readings,
+    is_shown: bool,
+    file: &[u8],
+) -> Saved
+    ensures { λ r. ⌜ r ≡ sessionOf before bytes block readings (now (file .entry)) ⌝ }
 {
-    let mut e = begin(before, bytes, block, file.len());
+    let mut e = begin(before, bytes, block, readings, file.len());
     let mut i: usize = 0;
     while i < 29 {
         e = turn(e, is_shown, i, file);

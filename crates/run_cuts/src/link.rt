@@ -1,6 +1,4 @@
 // What a session over a link that breaks leaves, and what is asked of it.
-use calls::Outcome;
-use calls::outcomes;
 use fields::buffers;
 use fields::names;
 use numbers::Number;
@@ -9,14 +7,18 @@ ghost use mathlib.Core.Path.{_≡_};
 ghost use mathlib.Core.Bool.{_&&_};
 ghost use Prim.Native.Nat.{_≤_, _-_, min};
 ghost use Rattle.records.specs.Record.{numberAt};
-ghost use Rattle.run_cuts.specs.Link.{begin as beginOf, nothing as nothingOf, isSuccess, passed as passedOf, kept as keptOf, holds as holdsOf, isOfFile, isSound, isWhole};
+ghost use Rattle.run_cuts.specs.Link.{begin as beginOf, nothing as nothingOf, passed as passedOf, kept as keptOf, holds as holdsOf, isOfFile, isSound, isSuccess, isWhole};
 
-// The area, the record's bytes, none where there is none, and whether both ends ended with success.
+// Stands in the place of document 01's number for an end that has not ended.
+pub const RUNNING: u8 = 255;
+
+// The area, the record's bytes, none where there is none, and the numbers that the two ends ended with.
 pub struct Saved {
     pub area: [u8; 320],
     pub bytes: [u8; 81],
     pub len: usize,
-    pub success: bool,
+    pub sender: u8,
+    pub receiver: u8,
 }
 
 // What stands on the link between two turns, and what it brought.
@@ -53,14 +55,9 @@ pub fn nothing() -> Saved
         area: [0xEE; 320],
         bytes: [0; 81],
         len: 0,
-        success: false,
+        sender: RUNNING,
+        receiver: RUNNING,
     }
-}
-
-pub fn is_success(outcome: Outcome) -> bool
-    ensures { λ r. ⌜ r ≡ isSuccess outcome ⌝ }
-{
-    outcomes::outcome_number(outcome) == 0
 }
 
 pub fn both(a: bool, b: bool) -> bool
@@ -157,11 +154,21 @@ pub fn is_sound(s: Saved, file: &[u8]) -> bool
     false
 }
 
-// Whether the session is at its end and the file whole.
+// Whether both ends ended with success.
+pub fn is_success(s: Saved) -> bool
+    ensures { λ r. ⌜ r ≡ isSuccess s ⌝ }
+{
+    if s.sender == 0 {
+        return s.receiver == 0;
+    }
+    false
+}
+
+// Whether they did, and the file is whole.
 pub fn is_whole(s: Saved, file: &[u8]) -> bool
     ensures { λ r. ⌜ r ≡ isWhole s (now (file .entry)) ⌝ }
 {
-    if s.success {
+    if is_success(s) {
         if kept(s) == file.len() {
             return is_sound(s, file);
         }

@@ -2,6 +2,7 @@
 use crate::link;
 use crate::link::Link;
 use crate::link::Saved;
+use calls::outcomes;
 use fields::Stamp;
 use yapp::ReceiverState;
 use yapp::SenderState;
@@ -11,7 +12,7 @@ use yapp_sender::Sender;
 use yapp_sender::SenderAnswer;
 ghost use mathlib.Core.Path.{_≡_};
 ghost use Rattle.yapp_receiver.specs.Receiver.{receive as receiveOf};
-ghost use Rattle.run_cuts.specs.YappLink.{receiverOf, begin as beginOf, send as sendOf, turn as turnOf, isSent, isReceived, savedAfter, session as sessionOf};
+ghost use Rattle.run_cuts.specs.YappLink.{receiverOf, begin as beginOf, send as sendOf, turn as turnOf, senderNumber, receiverNumber, savedAfter, session as sessionOf};
 
 // What stands between two turns.
 struct Ends {
@@ -85,29 +86,29 @@ fn turn(e: Ends, file: &[u8]) -> Ends
     }
 }
 
-fn is_sent(state: SenderState) -> bool
-    ensures { λ r. ⌜ r ≡ isSent state ⌝ }
+fn sender_number(state: SenderState) -> u8
+    ensures { λ r. ⌜ r ≡ senderNumber state ⌝ }
 {
     match state {
-        SenderState::S { .. } => false,
-        SenderState::SH => false,
-        SenderState::SD { .. } => false,
-        SenderState::SE => false,
-        SenderState::ST => false,
-        SenderState::CW { .. } => false,
-        SenderState::Ended { outcome } => link::is_success(outcome),
+        SenderState::S { .. } => link::RUNNING,
+        SenderState::SH => link::RUNNING,
+        SenderState::SD { .. } => link::RUNNING,
+        SenderState::SE => link::RUNNING,
+        SenderState::ST => link::RUNNING,
+        SenderState::CW { .. } => link::RUNNING,
+        SenderState::Ended { outcome } => outcomes::outcome_number(outcome),
     }
 }
 
-fn is_received(state: ReceiverState) -> bool
-    ensures { λ r. ⌜ r ≡ isReceived state ⌝ }
+fn receiver_number(state: ReceiverState) -> u8
+    ensures { λ r. ⌜ r ≡ receiverNumber state ⌝ }
 {
     match state {
-        ReceiverState::R => false,
-        ReceiverState::RH { .. } => false,
-        ReceiverState::RD => false,
-        ReceiverState::CW { .. } => false,
-        ReceiverState::Ended { outcome } => link::is_success(outcome),
+        ReceiverState::R => link::RUNNING,
+        ReceiverState::RH { .. } => link::RUNNING,
+        ReceiverState::RD => link::RUNNING,
+        ReceiverState::CW { .. } => link::RUNNING,
+        ReceiverState::Ended { outcome } => outcomes::outcome_number(outcome),
     }
 }
 
@@ -122,7 +123,8 @@ fn saved_after(e: Ends) -> Saved
         area,
         bytes,
         len: calls::record_count(got),
-        success: link::both(is_sent(e.sender.state()), is_received(e.receiver.state())),
+        sender: sender_number(e.sender.state()),
+        receiver: receiver_number(e.receiver.state()),
     }
 }
 

@@ -10,6 +10,7 @@ use Rattle.calls.specs.declared.Outcome.the-variants.{Success}
 use Rattle.calls.specs.Recording.{recordAnswer, recordLeft}
 use Rattle.bin.specs.declared.ReceiverState.the-variants.{Ended}
 use Rattle.bin_sender.specs.declared.Sender.{Sender}
+use Rattle.crc.specs.declared.Reading.the-variants.{Bare}
 use Rattle.bin_sender.specs.Sender.{SenderAfter, begin as beginSender, transmit, receive as senderReceives}
 use Rattle.bin_receiver.specs.declared.Receiver.{Receiver}
 use Rattle.bin_receiver.specs.Receiver.{ReceiverAfter, fresh, resume, receive as receiverReceives, timeout, recordBy}
@@ -55,12 +56,12 @@ turn file st =
 
 -- from the record that the session before left, if any
 abbrev pub receiverOf : Saved → ℕ → Receiver
-receiverOf before room = pick (eqb (before .count) 0) (fresh room true) (resume (take (before .count) (before .bytes)) room true)
+receiverOf before room = pick (eqb (before .count) 0) (fresh room true Bare) (resume (take (before .count) (before .bytes)) room true Bare)
 
--- blocks of 256 bytes, a line with date and time, and both ends resume; the link carries a frame whole or not at all
+-- blocks of 256 bytes, a line with date and time, document 01's reading of the CRC, and both ends resume; the link carries a frame whole or not at all
 unfoldable pub begin : Saved → List ℕ → ℕ → ℕ → ℕ → Ends
 begin before name left size room = record {
-  sender = beginSender name size 256 fileStamp true;
+  sender = beginSender name size 256 fileStamp true Bare;
   receiver = receiverOf before room;
   link = whole left true;
 }

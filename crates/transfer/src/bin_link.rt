@@ -6,6 +6,7 @@ use crate::text;
 use bin_receiver::Receiver;
 use bin_sender::Sender;
 use bin_sender::SenderAnswer;
+use crc::Reading;
 ghost use mathlib.Core.Path.{_≡_};
 ghost use Rattle.transfer.specs.Writes.{Stays};
 ghost use Rattle.transfer.specs.BinSession.{sends, carried, turn as turnOf, receiverOf, begin as beginOf, isOver, savedOf, savedAfter, Session};
@@ -21,16 +22,21 @@ fn receiver_of(before: Saved, room: usize) -> Receiver
 {
     let bytes = before.bytes;
     if before.count == 0 {
-        return Receiver::fresh(room, true);
+        return Receiver::fresh(room, true, Reading::Bare);
     }
-    Receiver::resume(fields::part(&bytes, 0, before.count), room, true)
+    Receiver::resume(
+        fields::part(&bytes, 0, before.count),
+        room,
+        true,
+        Reading::Bare,
+    )
 }
 
 fn begin(before: Saved, name: &[u8], left: usize, size: usize, room: usize) -> Ends
     ensures { λ r. ⌜ r ≡ beginOf before (now (name .entry)) left size room ⌝ }
 {
     Ends {
-        sender: Sender::begin(name, size, 256, link::STAMP, true),
+        sender: Sender::begin(name, size, 256, link::STAMP, true, Reading::Bare),
         receiver: receiver_of(before, room),
         link: link::whole(left, true),
     }

@@ -73,12 +73,12 @@ module _ (w : World) (t : Settings) where
     Fewer s a = toSend (a .state) + length (sentTo [] (a .out) reply) ≤ toSend s
 
     -- at a leave; and when the front frame reaches it, which is the OK if there is one
-    fewer : {s : SenderState} {r : ReceiverState} {v : Option Saved} {lr ls : List (List ℕ)} → Good w s r v lr ls
+    fewer : {s : SenderState} {r : ReceiverState} {v : Option Saved} {lr ls : List (List ℕ)} → Good w t s r v lr ls
         → Fewer s (senderTransmits (ourSender w t) (w .file) s) × Fewer s (senderTakes (ourSender w t) (w .file) s (front ls))
     unfolding senderTransmits senderTakes
-    fewer g0 = (omega (arith, sent-more [] (lineFrame w (t .stamp) ∷ []) reply .1), omega arith)
+    fewer g0 = (omega (arith, sent-more [] (lineFrame w t (t .stamp) ∷ []) reply .1), omega arith)
     fewer (g1 x) = (omega arith, omega arith)
-    fewer (g2 {k = k} {q = q} x h) = (omega arith, rw (ok-read w t reply h q refl (ok-some w h)) (omega (arith, sends-most k)))
+    fewer (g2 {k = k} {q = q} x h) = (omega arith, rw (ok-read w t reply h q refl (ok-some w t h)) (omega (arith, sends-most k)))
     fewer (g3 {p = p} h x) =
         let d = cut (t .block) (drop p (w .file)) in
         let filled = cuts (w .file) p (t .block) h (t .block-some) (t .block-most) .block .filled in
@@ -87,10 +87,10 @@ module _ (w : World) (t : Settings) where
 
     -- a receiver sends at most one frame for one that it takes
     answered : (r : ReceiverState) (v : Option Saved) (area : List ℕ) (lr : List (List ℕ))
-        → length (behindFront lr) + length (sentTo [] (receiverTakes (ourRoom w) r v area (front lr) .out) reply) ≤ length lr
+        → length (behindFront lr) + length (sentTo [] (receiverTakes (ourRoom w t) r v area (front lr) .out) reply) ≤ length lr
     unfolding receiverTakes
     answered r v area [] = omega arith
-    answered r v area (f ∷ lr) = omega (arith, sent-more [] (receiverTakes (ourRoom w) r v area f .out) reply .1)
+    answered r v area (f ∷ lr) = omega (arith, sent-more [] (receiverTakes (ourRoom w t) r v area f .out) reply .1)
 
   -- what is still to do falls by as much as a call does
   abbrev Spends : Act → Config → List ℕ → Option (List ℕ) → Option (List ℕ) → Type 0
@@ -109,7 +109,7 @@ module _ (w : World) (t : Settings) where
   taken-spends (holds n) transmitR reply q e = omega arith
   taken-spends (holds {r = r} {v = v} {area = area} {lr = lr} {ls = ls} n) (receiveR k) reply q e =
       rw (e, n .tied)
-      (omega (arith, sent-more ls (receiverTakes (ourRoom w) r v area (front lr) .out) reply .0, answered reply r v area lr))
+      (omega (arith, sent-more ls (receiverTakes (ourRoom w t) r v area (front lr) .out) reply .0, answered reply r v area lr))
   taken-spends h timeoutS reply q e = absurd q
   taken-spends h cancelS reply q e = absurd q
   taken-spends h timeoutR reply q e = absurd q
@@ -161,9 +161,9 @@ module _ (w : World) (t : Settings) where
         → IdleEnds s r v (f ∷ lr) ls
     takes e n x y z = absurd (omega (arith, rw (check-takes w t (holds n) (receiveR k) reply e l) at z))
 
-    idle-ends : {s : SenderState} {r : ReceiverState} {v : Option Saved} {lr ls : List (List ℕ)} → Good w s r v lr ls → IdleEnds s r v lr ls
+    idle-ends : {s : SenderState} {r : ReceiverState} {v : Option Saved} {lr ls : List (List ℕ)} → Good w t s r v lr ls → IdleEnds s r v lr ls
     unfolding senderTransmits
-    idle-ends g0 = sends refl (rw (sent-one [] (lineFrame w (t .stamp)) reply (line-said w (t .stamp) (t .stamp-fits) .some-bytes)) (omega arith))
+    idle-ends g0 = sends refl (rw (sent-one [] (lineFrame w t (t .stamp)) reply (line-said w (t .reading) (t .stamp) (t .stamp-fits) .some-bytes)) (omega arith))
     idle-ends (g1 x) = takes refl
     idle-ends (g2 o q) = λ n x y z. absurd (omega (arith, rw (check-takes w t (holds n) (receiveS k) reply refl l) at y))
     idle-ends (g3 {p = p} h x) =

@@ -17,7 +17,7 @@ use Rattle.fields.specs.declared.Stamp.{Stamp}
 use Rattle.fields.specs.declared.Stamp.the-variants.{Present}
 use Rattle.fields.specs.Buffer.{appended}
 use Rattle.fields.proofs.Lists.{same-refl}
-use Rattle.crc.specs.Crc.{crcOf}
+use Rattle.crc.specs.Crc.{crcBy}
 use Rattle.lines.specs.Frame.{starts, stopFrame}
 use Rattle.lines.specs.Element.{okName, formOf}
 use Rattle.records.specs.Saved.{Saved, stampFits}
@@ -74,19 +74,19 @@ pub data EndedS : SenderState → Type 0 where
 pub data OverR : ReceiverState → Type 0 where
   is-over : {o : Outcome} → OverR (Over o)
 
-module _ (w : World) where
+module _ (w : World) (t : Settings) where
   abbrev pub lineFrame : ℕ → List ℕ
-  lineFrame m = bytesIn (formOf (ourLine w m))
+  lineFrame m = bytesIn (formOf (ourLine w (t .reading) m))
 
   -- the receiver has k bytes: more are to come, or all are there
   pub data Stage (k : ℕ) : ReceiverState → Type 0 where
-    some-left : k < length (w .file) → Stage k (Takes (crcOf (w .file)))
+    some-left : k < length (w .file) → Stage k (Takes (crcBy (t .reading) (w .file)))
     all-there : k ≡ length (w .file) → Stage k (Over Success)
 
   -- the OK of a receiver that has k bytes
   pub data OkReply : ℕ → List ℕ → Type 0 where
     from-start : OkReply 0 (bytesIn (formOf (okName (w .name))))
-    from-kept : {k : ℕ} → k ≤ length (w .file) → OkReply k (bytesIn (formOf (ourKept w k)))
+    from-kept : {k : ℕ} → k ≤ length (w .file) → OkReply k (bytesIn (formOf (ourKept w (t .reading) k)))
 
   -- the phases of a session with neither timer nor stop: nothing sent; the line, the OK, frames of the file on the way; all sent
   pub data Good : SenderState → ReceiverState → Option Saved → List (List ℕ) → List (List ℕ) → Type 0 where
@@ -94,7 +94,7 @@ module _ (w : World) where
     g1 : {v : Option Saved} {m : ℕ} → m ≤ 0xFFFFFFFF → Good Wait Waiting v (lineFrame m ∷ []) []
     g2 : {k : ℕ} {s : ReceiverState} {m : Stamp} {q : List ℕ} → Stage k s → OkReply k q → Good Wait s (held w k m) [] (q ∷ [])
     g3 : {k p : ℕ} {m : Stamp} {l : List (List ℕ)} → p < length (w .file) → Frames (w .file) [] k p l
-        → Good (Send p) (Takes (crcOf (w .file))) (held w k m) l []
+        → Good (Send p) (Takes (crcBy (t .reading) (w .file))) (held w k m) l []
     g4 : {k : ℕ} {s : ReceiverState} {m : Stamp} {l : List (List ℕ)} → Stage k s → Frames (w .file) [] k (length (w .file)) l
         → Good (Ended Success) s (held w k m) l []
 
@@ -103,8 +103,8 @@ module _ (w : World) where
     at-rest : {o : Outcome} {v : Option Saved} {l : List (List ℕ)} → Flight (Over o) v l
     no-line : {v : Option Saved} {l : List (List ℕ)} → Stops l → Flight Waiting v l
     a-line : {v : Option Saved} {m : ℕ} {l : List (List ℕ)} → m ≤ 0xFFFFFFFF → Stops l → Flight Waiting v (lineFrame m ∷ l)
-    frames : {k p : ℕ} {m : Stamp} {t l : List (List ℕ)} → Stops t → Frames (w .file) t k p l
-        → Flight (Takes (crcOf (w .file))) (held w k m) l
+    frames : {k p : ℕ} {m : Stamp} {x l : List (List ℕ)} → Stops x → Frames (w .file) x k p l
+        → Flight (Takes (crcBy (t .reading) (w .file))) (held w k m) l
 
   -- a good phase, or one end at rest; at true only a good phase
   pub data Inv (s : SenderState) (r : ReceiverState) (v : Option Saved) (lr ls : List (List ℕ)) : Bool → Type 0 where
@@ -122,29 +122,29 @@ module _ (w : World) where
 
   -- both CRCs are those of the same file
   judge : (k : ℕ) (m : Stamp) (area : List ℕ) (reply : List (List ℕ)) (n tally : ℕ) → Stored w (held w k m) area tally
-      → Judged k m area reply (judgeWhole (crcOf (w .file)) (held w k m) area reply n)
+      → Judged k m area reply (judgeWhole (t .reading) (crcBy (t .reading) (w .file)) (held w k m) area reply n)
   unfolding judgeWhole
   judge k m area reply n tally h = go (eqb k (length (w .file))) refl
     where
       go : (x : Bool) → eqb k (length (w .file)) ≡ x
           → Judged k m area reply (pick x
-          (pick (eqb (crcOf (take (length (w .file)) area)) (crcOf (w .file))) (answers (Over Success) (held w k m) area reply n)
-          (answers (Over CheckFailed) none area (stopFrame ∷ []) n)) (answers (Takes (crcOf (w .file))) (held w k m) area reply n))
+          (pick (eqb (crcBy (t .reading) (take (length (w .file)) area)) (crcBy (t .reading) (w .file))) (answers (Over Success) (held w k m) area reply n)
+          (answers (Over CheckFailed) none area (stopFrame ∷ []) n)) (answers (Takes (crcBy (t .reading) (w .file))) (held w k m) area reply n))
       go true e =
           let q : k ≡ length (w .file) = eqb-true k (length (w .file)) e in
           let z : tally ≡ length (w .file) = sym (h .kept) ∙ q in
           let same-file : take (length (w .file)) area ≡ w .file = (rw z at (h .front)) ∙ take-length (w .file) in
-          rw (eq-eqb _ _ (ap crcOf same-file)) (judged (all-there q))
+          rw (eq-eqb _ _ (ap (crcBy (t .reading)) same-file)) (judged (all-there q))
       go false e =
           let q : k ≢ length (w .file) = eqb-false k (length (w .file)) e in
           let l = kept-within w (held w k m) (h .ours) in
           judged (some-left (omega arith))
 
   abbrev pub ourRoom : ReceiverSettings
-  ourRoom = record { room = length (w .area); resumes = true }
+  ourRoom = record { room = length (w .area); resumes = true; reading = t .reading }
 
   take-frame : (k : ℕ) (m : Stamp) (area : List ℕ) (tally : ℕ) (d : List ℕ) → Stored w (held w k m) area tally → Cut (w .file) k d
-      → Judged (k + length d) m (appended k d area) [] (receiverTakes ourRoom (Takes (crcOf (w .file))) (held w k m) area d)
+      → Judged (k + length d) m (appended k d area) [] (receiverTakes ourRoom (Takes (crcBy (t .reading) (w .file))) (held w k m) area d)
   unfolding receiverTakes takesFrame
   take-frame k m area tally [] h c = absurd (omega (arith, c .block .filled))
   take-frame k m area tally (b ∷ d) h c =
@@ -156,7 +156,7 @@ module _ (w : World) where
   accepts f q e (judged s) = at f s q e
 
   line-kept : (v : Option Saved) (area : List ℕ) (tally : ℕ) (m : ℕ) → m ≤ 0xFFFFFFFF → Stored w v area tally
-      → Accepts area tally (judgeRecord ourRoom v area (length (w .file)) (crcOf (w .file)) m true (w .name))
+      → Accepts area tally (judgeRecord ourRoom v area (length (w .file)) (crcBy (t .reading) (w .file)) m true (w .name))
   unfolding judgeRecord
   line-kept none area tally m x h =
       let f : stampFits (Present m) ≡ true = le-leb m 0xFFFFFFFF x in
@@ -170,9 +170,9 @@ module _ (w : World) where
       let front : take (v .kept) area ≡ take (v .kept) (w .file) = rw (h .kept) (h .front) in
       rw (same-name, same-size, front)
       (accepts f (from-kept (o .kept)) (h .kept)
-      (judge (v .kept) (Present m) area (says (ourKept w (v .kept))) 0 tally (restamped w (v .kept) (Present m) h (h .kept) f)))
+      (judge (v .kept) (Present m) area (says (ourKept w (t .reading) (v .kept))) 0 tally (restamped w (v .kept) (Present m) h (h .kept) f)))
 
-  line-read : (v : Option Saved) (area : List ℕ) (tally : ℕ) (m : ℕ) → m ≤ 0xFFFFFFFF → (f : List ℕ) → heard f ≡ ourLine w m → 1 ≤ length f
+  line-read : (v : Option Saved) (area : List ℕ) (tally : ℕ) (m : ℕ) → m ≤ 0xFFFFFFFF → (f : List ℕ) → heard f ≡ ourLine w (t .reading) m → 1 ≤ length f
       → Stored w v area tally → Accepts area tally (receiverTakes ourRoom Waiting v area f)
   unfolding receiverTakes receiverHears judgeExtended
   line-read v area tally m x [] e l h = absurd (omega arith)
@@ -180,7 +180,7 @@ module _ (w : World) where
 
   take-line : (v : Option Saved) (area : List ℕ) (tally : ℕ) (m : ℕ) → m ≤ 0xFFFFFFFF → Stored w v area tally
       → Accepts area tally (receiverTakes ourRoom Waiting v area (lineFrame m))
-  take-line v area tally m x h = let s = line-said w m x in line-read v area tally m x (lineFrame m) (s .heard-so) (s .some-bytes) h
+  take-line v area tally m x h = let s = line-said w (t .reading) m x in line-read v area tally m x (lineFrame m) (s .heard-so) (s .some-bytes) h
 
   -- a stop frame before the line is ignored; behind it it ends the receiver
   early-stop : (v : Option Saved) (area : List ℕ) → receiverTakes ourRoom Waiting v area stopFrame ≡ answers Waiting v area [] 0
@@ -194,94 +194,93 @@ module _ (w : World) where
   -- an OK starts as one
   reply-starts : {k : ℕ} {q : List ℕ} → OkReply k q → acceptedBy (q ++ []) false ≡ true
   reply-starts from-start = rw (append-nil (bytesIn (formOf (okName (w .name)))), ok-starts w)
-  reply-starts (from-kept {k = k} h) = rw (append-nil (bytesIn (formOf (ourKept w k))), kept-starts w k h)
+  reply-starts (from-kept {k = k} h) = rw (append-nil (bytesIn (formOf (ourKept w (t .reading) k))), kept-starts w (t .reading) k h)
 
   ok-short : {k : ℕ} {q : List ℕ} → OkReply k q → length q ≤ 256
   ok-short from-start = ok-said w .in-frame
-  ok-short (from-kept {k = k} h) = kept-said w k h .in-frame
+  ok-short (from-kept {k = k} h) = kept-said w (t .reading) k h .in-frame
 
   pub ok-some : {k : ℕ} {q : List ℕ} → OkReply k q → 1 ≤ length q
   ok-some from-start = ok-said w .some-bytes
-  ok-some (from-kept {k = k} h) = kept-said w k h .some-bytes
+  ok-some (from-kept {k = k} h) = kept-said w (t .reading) k h .some-bytes
 
-  module _ (t : Settings) where
-    abbrev pub ourSender : SenderSettings
-    ourSender = record { announce = Extended (t .stamp) true; name = w .name; size = length (w .file); block = t .block }
+  abbrev pub ourSender : SenderSettings
+  ourSender = record { announce = Extended (t .stamp) true (t .reading); name = w .name; size = length (w .file); block = t .block }
 
-    -- ---- the sender's calls; reply is the buffer that is lent
-    module _ (reply : List ℕ) where
-      abbrev pub SentOn : SenderMove → ReceiverState → Option Saved → List (List ℕ) → List (List ℕ) → Bool → Type 0
-      SentOn a r v lr ls o = Inv (a .state) r v (sentTo lr (a .out) reply) ls o
+  -- ---- the sender's calls; reply is the buffer that is lent
+  module _ (reply : List ℕ) where
+    abbrev pub SentOn : SenderMove → ReceiverState → Option Saved → List (List ℕ) → List (List ℕ) → Bool → Type 0
+    SentOn a r v lr ls o = Inv (a .state) r v (sentTo lr (a .out) reply) ls o
 
-      send-frame : {o : Bool} {k p : ℕ} {m : Stamp} {l : List (List ℕ)} → p < length (w .file) → Frames (w .file) [] k p l
-          → SentOn (senderTransmits ourSender (w .file) (Send p)) (Takes (crcOf (w .file))) (held w k m) l [] o
-      unfolding senderTransmits sendsFrom
-      send-frame {o} {k} {p} {m} {l} h r = rw (sent-one l d reply (c .block .filled)) (go (leb (length (w .file)) (p + length d)) refl)
-        where
-          d : List ℕ
-          d = cut (t .block) (drop p (w .file))
+    send-frame : {o : Bool} {k p : ℕ} {m : Stamp} {l : List (List ℕ)} → p < length (w .file) → Frames (w .file) [] k p l
+        → SentOn (senderTransmits ourSender (w .file) (Send p)) (Takes (crcBy (t .reading) (w .file))) (held w k m) l [] o
+    unfolding senderTransmits sendsFrom
+    send-frame {o} {k} {p} {m} {l} h r = rw (sent-one l d reply (c .block .filled)) (go (leb (length (w .file)) (p + length d)) refl)
+      where
+        d : List ℕ
+        d = cut (t .block) (drop p (w .file))
 
-          c : Cut (w .file) p d
-          c = cuts (w .file) p (t .block) h (t .block-some) (t .block-most)
+        c : Cut (w .file) p d
+        c = cuts (w .file) p (t .block) h (t .block-some) (t .block-most)
 
-          go : (x : Bool) → leb (length (w .file)) (p + length d) ≡ x
-              → Inv (pick x (Ended Success) (Send (p + length d))) (Takes (crcOf (w .file))) (held w k m) (l ++ (d ∷ [])) [] o
-          go true e =
-              let q : p + length d ≡ length (w .file) = omega (arith, leb-true, c .block .fits) in
-              let s : k < length (w .file) = omega (arith, frames-le r) in
-              good (g4 (some-left s) (rw q at (frames-snoc d c r)))
-          go false e =
-              let q : p + length d < length (w .file) = omega (arith, leb-false) in
-              good (g3 q (frames-snoc d c r))
+        go : (x : Bool) → leb (length (w .file)) (p + length d) ≡ x
+            → Inv (pick x (Ended Success) (Send (p + length d))) (Takes (crcBy (t .reading) (w .file))) (held w k m) (l ++ (d ∷ [])) [] o
+        go true e =
+            let q : p + length d ≡ length (w .file) = omega (arith, leb-true, c .block .fits) in
+            let s : k < length (w .file) = omega (arith, frames-le r) in
+            good (g4 (some-left s) (rw q at (frames-snoc d c r)))
+        go false e =
+            let q : p + length d < length (w .file) = omega (arith, leb-false) in
+            good (g3 q (frames-snoc d c r))
 
-      begins-at : {k : ℕ} {s : ReceiverState} {m : Stamp} {o : Bool} → Stage k s → Inv (sendsFrom (w .file) k) s (held w k m) [] [] o
-      unfolding sendsFrom
-      begins-at {k} (some-left h) = rw (lt-leb (length (w .file)) k h) (good (g3 h sent))
-      begins-at {k} (all-there e) =
-          let le : length (w .file) ≤ k = omega arith in
-          rw (le-leb (length (w .file)) k le) (good (g4 {l = []} (all-there e) (rw e sent)))
+    begins-at : {k : ℕ} {s : ReceiverState} {m : Stamp} {o : Bool} → Stage k s → Inv (sendsFrom (w .file) k) s (held w k m) [] [] o
+    unfolding sendsFrom
+    begins-at {k} (some-left h) = rw (lt-leb (length (w .file)) k h) (good (g3 h sent))
+    begins-at {k} (all-there e) =
+        let le : length (w .file) ≤ k = omega arith in
+        rw (le-leb (length (w .file)) k le) (good (g4 {l = []} (all-there e) (rw e sent)))
 
-      pub inv-leaves : {o : Bool} {s : SenderState} {r : ReceiverState} {v : Option Saved} {lr ls : List (List ℕ)} → Inv s r v lr ls o
-          → SentOn (senderTransmits ourSender (w .file) s) r v lr ls o
-      unfolding senderTransmits
-      inv-leaves (good g0) =
-          rw (sent-one [] (lineFrame (t .stamp)) reply (line-said w (t .stamp) (t .stamp-fits) .some-bytes)) (good (g1 (t .stamp-fits)))
-      inv-leaves (good (g1 x)) = good (g1 x)
-      inv-leaves (good (g2 s q)) = good (g2 s q)
-      inv-leaves (good (g3 h r)) = send-frame h r
-      inv-leaves (good (g4 s r)) = good (g4 s r)
-      inv-leaves (fades is-ended x) = fades is-ended x
-      inv-leaves (faded x) = faded x
+    pub inv-leaves : {o : Bool} {s : SenderState} {r : ReceiverState} {v : Option Saved} {lr ls : List (List ℕ)} → Inv s r v lr ls o
+        → SentOn (senderTransmits ourSender (w .file) s) r v lr ls o
+    unfolding senderTransmits
+    inv-leaves (good g0) =
+        rw (sent-one [] (lineFrame (t .stamp)) reply (line-said w (t .reading) (t .stamp) (t .stamp-fits) .some-bytes)) (good (g1 (t .stamp-fits)))
+    inv-leaves (good (g1 x)) = good (g1 x)
+    inv-leaves (good (g2 s q)) = good (g2 s q)
+    inv-leaves (good (g3 h r)) = send-frame h r
+    inv-leaves (good (g4 s r)) = good (g4 s r)
+    inv-leaves (fades is-ended x) = fades is-ended x
+    inv-leaves (faded x) = faded x
 
-      -- an OK is read
-      pub ok-read : {k : ℕ} {q : List ℕ} → OkReply k q → (f : List ℕ) → f ≡ q → 1 ≤ length f
-          → senderTakes ourSender (w .file) Wait f ≡ goes (sendsFrom (w .file) k) []
-      unfolding senderTakes senderHears resumesAt
-      ok-read q [] e l = absurd (omega arith)
-      ok-read from-start (b ∷ f) e l = rw (ap heard e ∙ ok-said w .heard-so)
-      ok-read (from-kept {k = k} h) (b ∷ f) e l =
-          rw (ap heard e ∙ kept-said w k h .heard-so, le-leb k (length (w .file)) h, eq-eqb (crcOf (take k (w .file))) _ refl)
+    -- an OK is read
+    pub ok-read : {k : ℕ} {q : List ℕ} → OkReply k q → (f : List ℕ) → f ≡ q → 1 ≤ length f
+        → senderTakes ourSender (w .file) Wait f ≡ goes (sendsFrom (w .file) k) []
+    unfolding senderTakes senderHears resumesAt
+    ok-read q [] e l = absurd (omega arith)
+    ok-read from-start (b ∷ f) e l = rw (ap heard e ∙ ok-said w .heard-so)
+    ok-read (from-kept {k = k} h) (b ∷ f) e l =
+        rw (ap heard e ∙ kept-said w (t .reading) k h .heard-so, le-leb k (length (w .file)) h, eq-eqb (crcBy (t .reading) (take k (w .file))) _ refl)
 
-      pub inv-takesS : {o : Bool} {s : SenderState} {r : ReceiverState} {v : Option Saved} {lr ls : List (List ℕ)} {f : List ℕ} → Inv s r v lr (f ∷ ls) o
-          → SentOn (senderTakes ourSender (w .file) s f) r v lr ls o
-      unfolding senderTakes
-      inv-takesS {f = f} (good (g2 s q)) = rw (ok-read q f refl (ok-some q)) (begins-at s)
-      inv-takesS {f = []} (fades is-ended x) = fades is-ended x
-      inv-takesS {f = b ∷ f} (fades is-ended x) = fades is-ended x
-      inv-takesS (faded x) = faded x
+    pub inv-takesS : {o : Bool} {s : SenderState} {r : ReceiverState} {v : Option Saved} {lr ls : List (List ℕ)} {f : List ℕ} → Inv s r v lr (f ∷ ls) o
+        → SentOn (senderTakes ourSender (w .file) s f) r v lr ls o
+    unfolding senderTakes
+    inv-takesS {f = f} (good (g2 s q)) = rw (ok-read q f refl (ok-some q)) (begins-at s)
+    inv-takesS {f = []} (fades is-ended x) = fades is-ended x
+    inv-takesS {f = b ∷ f} (fades is-ended x) = fades is-ended x
+    inv-takesS (faded x) = faded x
 
-      pub inv-failsS : {o : Bool} {s : SenderState} {r : ReceiverState} {v : Option Saved} {lr ls : List (List ℕ)} (n : Outcome) → Inv s r v lr ls o
-          → SentOn (senderFails n s) r v lr ls false
-      unfolding senderFails
-      inv-failsS n (good g0) = rw (sent-one [] stopFrame reply (omega arith)) (fades is-ended (no-line stop-sent))
-      inv-failsS n (good (g1 {m = m} x)) = rw (sent-one (lineFrame m ∷ []) stopFrame reply (omega arith)) (fades is-ended (a-line x stop-sent))
-      inv-failsS n (good (g2 (some-left h) q)) = rw (sent-one [] stopFrame reply (omega arith)) (fades is-ended (frames stop-sent sent))
-      inv-failsS n (good (g2 (all-there e) q)) = faded is-over
-      inv-failsS n (good (g3 {l = l} h r)) =
-          rw (sent-one l stopFrame reply (omega arith)) (fades is-ended (frames stop-sent (frames-append (stopFrame ∷ []) r)))
-      inv-failsS n (good (g4 s r)) = good (g4 s r)
-      inv-failsS n (fades is-ended x) = fades is-ended x
-      inv-failsS n (faded x) = faded x
+    pub inv-failsS : {o : Bool} {s : SenderState} {r : ReceiverState} {v : Option Saved} {lr ls : List (List ℕ)} (n : Outcome) → Inv s r v lr ls o
+        → SentOn (senderFails n s) r v lr ls false
+    unfolding senderFails
+    inv-failsS n (good g0) = rw (sent-one [] stopFrame reply (omega arith)) (fades is-ended (no-line stop-sent))
+    inv-failsS n (good (g1 {m = m} x)) = rw (sent-one (lineFrame m ∷ []) stopFrame reply (omega arith)) (fades is-ended (a-line x stop-sent))
+    inv-failsS n (good (g2 (some-left h) q)) = rw (sent-one [] stopFrame reply (omega arith)) (fades is-ended (frames stop-sent sent))
+    inv-failsS n (good (g2 (all-there e) q)) = faded is-over
+    inv-failsS n (good (g3 {l = l} h r)) =
+        rw (sent-one l stopFrame reply (omega arith)) (fades is-ended (frames stop-sent (frames-append (stopFrame ∷ []) r)))
+    inv-failsS n (good (g4 s r)) = good (g4 s r)
+    inv-failsS n (fades is-ended x) = fades is-ended x
+    inv-failsS n (faded x) = faded x
 
   -- ---- the receiver's calls
   module _ (reply area : List ℕ) (tally : ℕ) where
@@ -335,15 +334,15 @@ module _ (w : World) where
 
     module _ {k : ℕ} {m : Stamp} {d : List ℕ} (h : Stored w (held w k m) area tally) (b : Block (w .file) k d) where
       frame-send : {p : ℕ} {l : List (List ℕ)} {o : Bool} {a : ReceiverMove} → Judged (k + length d) m (appended k d area) [] a → p < length (w .file)
-          → Frames (w .file) [] (k + length d) p l → TakenOn (Takes (crcOf (w .file))) (Send p) a l [] o (length d)
+          → Frames (w .file) [] (k + length d) p l → TakenOn (Takes (crcBy (t .reading) (w .file))) (Send p) a l [] o (length d)
       frame-send (judged s) q r = record { inv = stage-good s q r; stored = grown-by w d h b; short = omega arith; seen = stage-stays s }
 
       frame-ended : {l : List (List ℕ)} {o : Bool} {a : ReceiverMove} → Judged (k + length d) m (appended k d area) [] a
-          → Frames (w .file) [] (k + length d) (length (w .file)) l → TakenOn (Takes (crcOf (w .file))) (Ended Success) a l [] o (length d)
+          → Frames (w .file) [] (k + length d) (length (w .file)) l → TakenOn (Takes (crcBy (t .reading) (w .file))) (Ended Success) a l [] o (length d)
       frame-ended (judged s) r = record { inv = good (g4 s r); stored = grown-by w d h b; short = omega arith; seen = stage-stays s }
 
       frame-fading : {p : ℕ} {s : SenderState} {x l ls : List (List ℕ)} {a : ReceiverMove} → Judged (k + length d) m (appended k d area) [] a
-          → EndedS s → Stops x → Frames (w .file) x (k + length d) p l → TakenOn (Takes (crcOf (w .file))) s a l ls false (length d)
+          → EndedS s → Stops x → Frames (w .file) x (k + length d) p l → TakenOn (Takes (crcBy (t .reading) (w .file))) s a l ls false (length d)
       frame-fading (judged y) e z r = record { inv = fades e (stage-flight y z r); stored = grown-by w d h b; short = omega arith; seen = stage-stays y }
 
     -- a receiver that has ended
@@ -365,7 +364,7 @@ module _ (w : World) where
     brings c = rw (c .no-display, c .no-stop)
 
     late : {s : SenderState} {k : ℕ} {m : Stamp} {ls : List (List ℕ)} → EndedS s → Stored w (held w k m) area tally
-        → TakenOn (Takes (crcOf (w .file))) s (receiverTakes ourRoom (Takes (crcOf (w .file))) (held w k m) area stopFrame) [] ls false (fileIn true stopFrame)
+        → TakenOn (Takes (crcBy (t .reading) (w .file))) s (receiverTakes ourRoom (Takes (crcBy (t .reading) (w .file))) (held w k m) area stopFrame) [] ls false (fileIn true stopFrame)
     unfolding receiverTakes starts same
     late x h = record { inv = fades x at-rest; stored = unmoved w h; short = omega arith; seen = λ e. over e }
 
@@ -404,12 +403,12 @@ module _ (w : World) where
   -- what is on the way to a receiver that has not ended fits a frame
   pub front-short : {o : Bool} {s : SenderState} {r : ReceiverState} {v : Option Saved} {lr ls : List (List ℕ)} {f : List ℕ} → Inv s r v (f ∷ lr) ls o
       → receiverEnded r ≡ false → length f ≤ 256
-  front-short (good (g1 {m = m} x)) e = line-said w m x .in-frame
+  front-short (good (g1 {m = m} x)) e = line-said w (t .reading) m x .in-frame
   front-short (good (g3 q (frame d c r))) e = c .most
   front-short (good (g4 x (frame d c r))) e = c .most
   front-short (fades x at-rest) e = absurd (false≢true (sym e))
   front-short (fades x (no-line stop-sent)) e = omega arith
-  front-short (fades x (a-line {m = m} y z)) e = line-said w m y .in-frame
+  front-short (fades x (a-line {m = m} y z)) e = line-said w (t .reading) m y .in-frame
   front-short (fades x (frames stop-sent sent)) e = omega arith
   front-short (fades x (frames z (frame d c r))) e = c .most
   front-short (faded is-over) e = absurd (false≢true (sym e))

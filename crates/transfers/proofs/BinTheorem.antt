@@ -36,7 +36,7 @@ use Rattle.bin.specs.Steps.{joined}
 use Rattle.bin_sender.specs.Sender as sender
 use Rattle.bin_receiver.specs.Receiver as receiver
 use Rattle.calls.specs.Saving.{formBy}
-use Rattle.transfers.specs.MachinesBin.{senderTransmits, transmit, receiverTakes, receive}
+use Rattle.transfers.specs.MachinesBin.{senderTransmits, transmit, fresh, resume, receiverTakes, receive}
 use Rattle.transfers.specs.World.{World, Left, Act, transmitS, timeoutS, cancelS, transmitR, timeoutR, cancelR, receiveS, receiveR, Call, lentOr, ours, savedBytes, laidBy, Calm, NoStop}
 use Rattle.transfers.specs.Bin.{Settings, Config, receiverBy, begins, front, behindFront, acceptedBy, fileIn, stepS, stepR, endedAt, checked, Made, bySender, byReceiver, made, stepBy, step, runs, Fair, own, refused, Fairly, Calmly, Quiet, Complete, workOf, statusIn, Serves, leaves}
 use Rattle.transfers.proofs.Calls.{sent-is, lent-back}
@@ -48,24 +48,25 @@ use Rattle.transfers.proofs.BinGood.{sent, frame, isTaking, Good, g0, g
 
 module _ (w : World) (t : Settings) where
   abbrev pub senderAt : SenderState → Sender
-  senderAt st = sender.senderWith st (Extended (t .stamp) true) (w .name) (length (w .file)) (t .block)
+  senderAt st = sender.senderWith st (Extended (t .stamp) true (t .reading)) (w .name) (length (w .file)) (t .block)
 
   pub settings-are : (st : SenderState) → sender.settingsOf (senderAt st) ≡ ourSender w t
   settings-are st = rw (name-back (w .name) (replicate 64 0) refl (name-length (w .name) (w .named) .1), le-leb (t .block) 256 (t .block-most))
 
-abbrev pub receiverAt : World → ReceiverState → Option Saved → List ℕ → Receiver
-receiverAt w st v arr = record { name = arr; core = record { state = st; room = length (w .area); resumes = true; keeping = keepingOf v } }
+  abbrev pub receiverAt : ReceiverState → Option Saved → List ℕ → Receiver
+  receiverAt st v arr =
+      record { name = arr; core = record { state = st; room = length (w .area); resumes = true; reading = t .reading; keeping = keepingOf v } }
 
 module _ (w : World) (t : Settings) where
   abbrev pub cfg : SenderState → ReceiverState → Option Saved → List ℕ → List ℕ → List (List ℕ) → List (List ℕ) → Bool → ℕ → List ℕ → Config
   cfg s r v arr area lr ls acc tally laid =
-      record { snd = senderAt w t s; rcv = receiverAt w r v arr; area = area; toR = lr; toS = ls; accepted = acc; tally = tally; laid = laid }
+      record { snd = senderAt w t s; rcv = receiverAt w t r v arr; area = area; toR = lr; toS = ls; accepted = acc; tally = tally; laid = laid }
 
   -- what holds after every call; at true there was neither timer nor stop
   pub record Now (o : Bool) (s : SenderState) (r : ReceiverState) (v : Option Saved) (arr area : List ℕ) (lr ls : List (List ℕ)) (acc : Bool) (tally : ℕ) (laid : List ℕ) : Type 0 where
     pub array : length arr ≡ 64
     pub tied : savedBy (keepingOf v) arr ≡ v
-    pub inv : Inv w s r v lr ls o
+    pub inv : Inv w t s r v lr ls o
     pub stored : Stored w v area tally
     pub account : area ≡ laid
     pub short : Short ls
@@ -95,7 +96,7 @@ module _ (w : World) (t : Settings) where
     answerS a reply x = sender.unlessRefused x (senderAt w t s) reply (sender.replied (senderAt w t s) a reply)
 
     abbrev answerR : Place → ReceiverMove → List ℕ → List ℕ → Status → receiver.ReceiverAfter
-    answerR shown a lent reply x = receiver.unlessRefused x (receiverAt w r v arr) lent reply (receiver.replied (receiverAt w r v arr) shown a reply)
+    answerR shown a lent reply x = receiver.unlessRefused x (receiverAt w t r v arr) lent reply (receiver.replied (receiverAt w t r v arr) shown a reply)
 
     -- a refused call at either end, which leaves all that was on the way
     refused-S : (lent handed : Option (List ℕ)) (x : Status) (reply : List ℕ) (left : List (List ℕ)) → left ≡ ls
@@ -103,7 +104,7 @@ module _ (w : World) (t : Settings) where
     refused-S lent handed x reply left q = record { keeps = λ f. rw q (holds n); answers = refl; unmoved = λ e. (rw q, rw q (omega arith)) }
 
     refused-R : (lent handed : Option (List ℕ)) (x : Status) (reply : List ℕ) (left : List (List ℕ)) (came : ℕ) → left ≡ lr → came ≡ 0
-        → Does o now lent handed x (byReceiver (receiver.refusedCall (receiverAt w r v arr) x (lentOr area lent) reply) left came)
+        → Does o now lent handed x (byReceiver (receiver.refusedCall (receiverAt w t r v arr) x (lentOr area lent) reply) left came)
     unfolding starts same
     refused-R lent handed x reply left came q z = record {
       keeps = λ f. rw (q, z, lent-back area lent, add-zero tally, lays-none w tally laid) (holds n);
@@ -114,7 +115,7 @@ module _ (w : World) (t : Settings) where
     -- a call at the sender, which moves by the frame that is handed over and the file that is lent; left is what it leaves on the way, all of
     -- it where it is refused
     sender-call : (move : Option (List ℕ) → List ℕ → SenderMove) (left : Bool → List (List ℕ)) (reply : List ℕ) (lent handed : Option (List ℕ)) (x : Status)
-        → left false ≡ ls → Short (left true) → Inv w (move none (w .file) .state) r v (sentTo lr (move none (w .file) .out) reply) (left true) o
+        → left false ≡ ls → Short (left true) → Inv w t (move none (w .file) .state) r v (sentTo lr (move none (w .file) .out) reply) (left true) o
         → Does o now lent handed x (bySender (answerS (move handed (lentOr (w .file) lent)) reply x) (left (isTaken x)))
     sender-call move left reply lent handed Taken q z j = record { keeps = go lent handed; answers = refl; unmoved = λ e. absurd (false≢true (sym e)) }
       where
@@ -132,13 +133,13 @@ module _ (w : World) (t : Settings) where
     receiver-call : (move : Option (List ℕ) → List ℕ → ReceiverMove) (shown : Option (List ℕ) → Place) (left : Bool → List (List ℕ))
         (came : Option (List ℕ) → Bool → ℕ) (reply : List ℕ) (lent handed : Option (List ℕ)) (x : Status)
         → left false ≡ lr → came handed false ≡ 0 → (isTaken x ≡ true → receiverEnded r ≡ false)
-        → (isTaken x ≡ true → TakenOn w reply area tally r s (move none area) (left true) ls o (came none true))
+        → (isTaken x ≡ true → TakenOn w t reply area tally r s (move none area) (left true) ls o (came none true))
         → Does o now lent handed x
         (byReceiver (answerR (shown handed) (move handed (lentOr area lent)) (lentOr area lent) reply x) (left (isTaken x)) (came handed (isTaken x)))
     receiver-call move shown left came reply lent handed Taken q z y k =
         record { keeps = go lent handed; answers = refl; unmoved = λ e. absurd (false≢true (sym e)) }
       where
-        j : TakenOn w reply area tally r s (move none area) (left true) ls o (came none true)
+        j : TakenOn w t reply area tally r s (move none area) (left true) ls o (came none true)
         j = k refl
 
         go : (lent handed : Option (List ℕ)) → Fair lent handed Taken
@@ -170,25 +171,25 @@ module _ (w : World) (t : Settings) where
 
     does-transmitR : Serving o transmitR now
     unfolding receiver.transmit
-    does-transmitR reply lent handed = refused-R lent handed (receiver.statusOf (receiverAt w r v arr) 0 (lentOr area lent) reply) reply lr 0 refl refl
+    does-transmitR reply lent handed = refused-R lent handed (receiver.statusOf (receiverAt w t r v arr) 0 (lentOr area lent) reply) reply lr 0 refl refl
 
   short-behind : (ls : List (List ℕ)) → Short ls → Short (behindFront ls)
   short-behind [] h = h
   short-behind (f ∷ ls) h = h .1
 
   -- the front frame arrives, if there is one
-  front-S : {o : Bool} {s : SenderState} {r : ReceiverState} {v : Option Saved} {lr : List (List ℕ)} (ls : List (List ℕ)) (reply : List ℕ) → Inv w s r v lr ls o
-      → Inv w (senderTakes (ourSender w t) (w .file) s (front ls) .state) r v
+  front-S : {o : Bool} {s : SenderState} {r : ReceiverState} {v : Option Saved} {lr : List (List ℕ)} (ls : List (List ℕ)) (reply : List ℕ) → Inv w t s r v lr ls o
+      → Inv w t (senderTakes (ourSender w t) (w .file) s (front ls) .state) r v
       (sentTo lr (senderTakes (ourSender w t) (w .file) s (front ls) .out) reply) (behindFront ls) o
   unfolding senderTakes
   front-S [] reply i = i
   front-S (f ∷ ls) reply i = inv-takesS w t reply i
 
   front-R : {o : Bool} {s : SenderState} {r : ReceiverState} {v : Option Saved} (lr : List (List ℕ)) {ls : List (List ℕ)} (reply area : List ℕ)
-      (tally : ℕ) → Inv w s r v lr ls o → Stored w v area tally
-      → TakenOn w reply area tally r s (receiverTakes (ourRoom w) r v area (front lr)) (behindFront lr) ls o (fileIn (isTaking r) (front lr))
-  front-R {r = r} {v = v} [] reply area tally i h = inv-nothing w reply area tally r v i h
-  front-R (f ∷ lr) reply area tally i h = inv-takesR w reply area tally i h
+      (tally : ℕ) → Inv w t s r v lr ls o → Stored w v area tally
+      → TakenOn w t reply area tally r s (receiverTakes (ourRoom w t) r v area (front lr)) (behindFront lr) ls o (fileIn (isTaking r) (front lr))
+  front-R {r = r} {v = v} [] reply area tally i h = inv-nothing w t reply area tally r v i h
+  front-R (f ∷ lr) reply area tally i h = inv-takesR w t reply area tally i h
 
   module _ {o : Bool} {s : SenderState} {r : ReceiverState} {v : Option Saved} {arr area : List ℕ} {lr ls : List (List ℕ)} {acc : Bool} {tally : ℕ} {laid : List ℕ}
       (n : Now o s r v arr area lr ls acc tally laid) (k : ℕ) where
@@ -202,10 +203,10 @@ module _ (w : World) (t : Settings) where
     does-receiveR : Serving o (receiveR k) (now n)
     unfolding receive
     does-receiveR reply lent handed =
-        receiver-call n (λ (g : Option (List ℕ)) (a : List ℕ). receiverTakes (ourRoom w) r (savedBy (keepingOf v) arr) a (lentOr (front lr) g))
+        receiver-call n (λ (g : Option (List ℕ)) (a : List ℕ). receiverTakes (ourRoom w t) r (savedBy (keepingOf v) arr) a (lentOr (front lr) g))
         (λ (g : Option (List ℕ)). receiver.shownIn r (lentOr (front lr) g)) (λ (x : Bool). pick x (behindFront lr) lr)
         (λ (g : Option (List ℕ)) (x : Bool). pick x (fileIn acc (lentOr (front lr) g)) 0) reply lent handed
-        (receiver.statusOf (receiverAt w r v arr) (length (lentOr (front lr) handed)) (lentOr area lent) reply) refl refl (taken-open _ _ _ _ _)
+        (receiver.statusOf (receiverAt w t r v arr) (length (lentOr (front lr) handed)) (lentOr area lent) reply) refl refl (taken-open _ _ _ _ _)
         (λ e. rw (n .watched (taken-open _ _ _ _ _ e), n .tied) (front-R lr reply area tally (n .inv) (n .stored)))
 
   module _ {s : SenderState} {r : ReceiverState} {v : Option Saved} {arr area : List ℕ} {lr ls : List (List ℕ)} {acc : Bool} {tally : ℕ} {laid : List ℕ}
@@ -229,16 +230,16 @@ module _ (w : World) (t : Settings) where
     does-timeoutR reply lent handed =
         receiver-call n (λ (g : Option (List ℕ)) (a : List ℕ). receiverFails TimedOut r (savedBy (keepingOf v) arr) a) (λ (g : Option (List ℕ)). receiver.nowhere) (λ (x : Bool). lr)
         (λ (g : Option (List ℕ)) (x : Bool). 0) reply lent handed
-        (receiver.statusOf (receiverAt w r v arr) 0 (lentOr area lent) reply) refl refl (taken-open _ _ _ _ _)
-        (λ e. rw (n .tied) (inv-failsR w reply area tally TimedOut r v (n .stored)))
+        (receiver.statusOf (receiverAt w t r v arr) 0 (lentOr area lent) reply) refl refl (taken-open _ _ _ _ _)
+        (λ e. rw (n .tied) (inv-failsR w t reply area tally TimedOut r v (n .stored)))
 
     does-cancelR : Serving false cancelR (now n)
     unfolding receiver.cancel
     does-cancelR reply lent handed =
         receiver-call n (λ (g : Option (List ℕ)) (a : List ℕ). receiverFails Stopped r (savedBy (keepingOf v) arr) a) (λ (g : Option (List ℕ)). receiver.nowhere) (λ (x : Bool). lr)
         (λ (g : Option (List ℕ)) (x : Bool). 0) reply lent handed
-        (receiver.statusOf (receiverAt w r v arr) 0 (lentOr area lent) reply) refl refl (taken-open _ _ _ _ _)
-        (λ e. rw (n .tied) (inv-failsR w reply area tally Stopped r v (n .stored)))
+        (receiver.statusOf (receiverAt w t r v arr) 0 (lentOr area lent) reply) refl refl (taken-open _ _ _ _ _)
+        (λ e. rw (n .tied) (inv-failsR w t reply area tally Stopped r v (n .stored)))
 
   does-calm : {o : Bool} (a : Act) {c : Config} → Calm a → Holds o c → Serving o a c
   does-calm transmitS q (holds n) = does-transmitS n
@@ -264,7 +265,7 @@ module _ (w : World) (t : Settings) where
   all-kept [] c h f = h
   all-kept (k ∷ ks) c h f = all-kept ks (step w k c) (does (k .act) h (k .reply) (k .lent) (k .handed) .keeps (f .0)) (f .1)
 
-  pub only-good : {s : SenderState} {r : ReceiverState} {v : Option Saved} {lr ls : List (List ℕ)} → Inv w s r v lr ls true → Good w s r v lr ls
+  pub only-good : {s : SenderState} {r : ReceiverState} {v : Option Saved} {lr ls : List (List ℕ)} → Inv w t s r v lr ls true → Good w t s r v lr ls
   only-good (good g) = g
 
   pub loosen : {c : Config} → Holds true c → Holds false c
@@ -295,10 +296,10 @@ module _ (w : World) (t : Settings) where
   short-S [] h = omega arith
   short-S (f ∷ ls) h = h .0
 
-  short-R : {o : Bool} {s : SenderState} {r : ReceiverState} {v : Option Saved} (lr : List (List ℕ)) {ls : List (List ℕ)} → Inv w s r v lr ls o
+  short-R : {o : Bool} {s : SenderState} {r : ReceiverState} {v : Option Saved} (lr : List (List ℕ)) {ls : List (List ℕ)} → Inv w t s r v lr ls o
       → receiverEnded r ≡ false → length (front lr) ≤ 256
   short-R [] i e = omega arith
-  short-R (f ∷ lr) i e = front-short w i e
+  short-R (f ∷ lr) i e = front-short w t i e
 
   pub check-takes : {o : Bool} {c : Config} → Holds o c → (a : Act) (reply : List ℕ) → endedAt w a c ≡ false → 259 ≤ length reply
       → checked w a c reply none none ≡ Taken
@@ -322,12 +323,12 @@ module _ (w : World) (t : Settings) where
 
   -- ---- the beginning
 
-  sender-begins : sender.begin (w .name) (length (w .file)) (t .block) (t .stamp) true ≡ senderAt w t Start
+  sender-begins : sender.begin (w .name) (length (w .file)) (t .block) (t .stamp) true (t .reading) ≡ senderAt w t Start
   unfolding sender.begin
   sender-begins = rw (w .named, le-leb (length (w .file)) 99999999 (w .size), le-leb 1 (t .block) (t .block-some), le-leb (t .block) 256 (t .block-most))
 
   receiver-with : (u : Saved) → Ours w u
-      → receiver.withSaved (length (w .area)) true u ≡ receiverAt w Waiting (some u) (appended 0 (u .name) (replicate 64 0))
+      → receiver.withSaved (length (w .area)) true (t .reading) u ≡ receiverAt w t Waiting (some u) (appended 0 (u .name) (replicate 64 0))
   unfolding receiver.withSaved
   receiver-with u h =
       let x = h .kept in
@@ -339,13 +340,13 @@ module _ (w : World) (t : Settings) where
 
   -- the record that is read back is the one that was written
   receiver-begins : (v : Option Saved) → ((u : Saved) → v ≡ some u → Ours w u)
-      → receiverBy (length (w .area)) (savedBytes (formBy v)) ≡ receiverAt w Waiting v (appended 0 (nameOf v) (replicate 64 0))
-  unfolding receiver.fresh receiver.resume
+      → receiverBy (length (w .area)) (t .reading) (savedBytes (formBy v)) ≡ receiverAt w t Waiting v (appended 0 (nameOf v) (replicate 64 0))
+  unfolding fresh resume
   receiver-begins none o = refl
   receiver-begins (some u) o =
       let h = o u refl in
       let q = ours-back w u h in
-      rw (ours-form w u h, q .1) (ap (receiver.withSaved (length (w .area)) true) (q .2) ∙ receiver-with u h)
+      rw (ours-form w u h, q .1) (ap (receiver.withSaved (length (w .area)) true (t .reading)) (q .2) ∙ receiver-with u h)
 
   pub begun : (o : Bool) (l : Left) → Between w l → Holds o (begins w t l)
   begun o l b =
@@ -381,13 +382,13 @@ module _ (w : World) (t : Settings) where
     has-all : r ≡ REnded Success
     keeps-all : keptOf v ≡ length (w .file)
 
-  done : {s : SenderState} {r : ReceiverState} {v : Option Saved} {lr ls : List (List ℕ)} → Good w s r v lr ls
+  done : {s : SenderState} {r : ReceiverState} {v : Option Saved} {lr ls : List (List ℕ)} → Good w t s r v lr ls
       → (senderEnded s ≡ true) ⊎ (ls ≡ []) → (receiverEnded r ≡ true) ⊎ (lr ≡ [])
       → ((reply : List ℕ) → transmit (senderAt w t s) (w .file) reply .answer .sent ≡ 0) → Done s r v
   unfolding senderTransmits
   done g0 a b e =
       let z = nothing-more Start refl e in
-      let y = line-said w (t .stamp) (t .stamp-fits) .some-bytes in
+      let y = line-said w (t .reading) (t .stamp) (t .stamp-fits) .some-bytes in
       absurd (omega (arith, simp (append-nil) at z))
   done (g1 x) a b e = busy b
   done (g2 s q) a b e = busy a

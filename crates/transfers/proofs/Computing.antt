@@ -36,7 +36,7 @@ use Rattle.transfers.proofs.YappPhases.{machine}
 
 -- opens all that a session computes with, also where a useless build takes another turn: `unfolding opened`
 unfoldable pub opened : Unit {0}
-unfolding machine all upTo same isName isNameByte over appended radix decimalDigit hexDigit valueFrom readDecimal readCrc readHex littleValue decimal digits hex capital little reduced remainder byteStep walkFrom span.known span.paired span.dataLength span.counted span.total span.spanAt span.lead span.trail span.placeAt packet.stampOf packet.headerSize packet.headerRead packet.resumeMode packet.resumeDigits packet.resumeRead packet.checksum packet.isSound packet.acknowledgeOf packet.wholeOf content.contentOf content.stampData content.headerData content.headerForm content.blockForm content.refusalForm content.requestForm content.resumeData content.resumeForm content.formOf pending.slot pending.feed record-read.namedAt record-read.kindRead record-read.recordOf saved.kindOf saved.stampBytes saved.recordData saved.recordBytes saved.isSaved saved.recordForm frame.starts frame.ends frame.body frame.hasHash frame.behind frame.marked frame.lineName frame.hasResume frame.stampDigits frame.lineStamp frame.lineCrc frame.lineRead frame.lineOf frame.okKept frame.okName frame.okRead frame.okOf frame.textOf frame.frameOf element.contentOf element.lineBytes element.okBytes element.keptBytes element.noBytes element.lineForm element.okNameForm element.okKeptForm element.noForm element.formOf checkOf ysteps.writes ysender.begin ysender.transmit ysender.receive yreceiver.fresh yreceiver.withSaved yreceiver.resume yends.receive yends.transmit bsteps.heard bends.cut bsteps.sendsFrom bends.senderTransmits bsteps.resumesAt bsteps.senderHears bsteps.senderSends bsteps.senderTakes bsteps.judgeWhole bsteps.judgeRecord bsteps.judgeExtended bsteps.receiverHears bsteps.takesFrame bends.receiverTakes bsender.begin bends.transmit bsender.receive breceiver.fresh breceiver.withSaved breceiver.resume bends.receive
+unfolding machine all upTo same isName isNameByte over appended radix decimalDigit hexDigit valueFrom readDecimal readCrc readHex littleValue decimal digits hex capital little reduced remainder byteStep walkFrom span.known span.paired span.dataLength span.counted span.total span.spanAt span.lead span.trail span.placeAt packet.stampOf packet.headerSize packet.headerRead packet.resumeMode packet.resumeDigits packet.resumeRead packet.checksum packet.isSound packet.acknowledgeOf packet.wholeOf content.contentOf content.stampData content.headerData content.headerForm content.blockForm content.refusalForm content.requestForm content.resumeData content.resumeForm content.formOf pending.slot pending.feed record-read.namedAt record-read.kindRead record-read.recordOf saved.kindOf saved.stampBytes saved.recordData saved.recordBytes saved.isSaved saved.recordForm frame.starts frame.ends frame.body frame.hasHash frame.behind frame.marked frame.lineName frame.hasResume frame.stampDigits frame.lineStamp frame.lineCrc frame.lineRead frame.lineOf frame.okKept frame.okName frame.okRead frame.okOf frame.textOf frame.frameOf element.contentOf element.lineBytes element.okBytes element.keptBytes element.noBytes element.lineForm element.okNameForm element.okKeptForm element.noForm element.formOf checkOf ysteps.writes ysender.begin ysender.transmit ysender.receive yreceiver.fresh yreceiver.withSaved yreceiver.resume yends.receive yends.transmit bsteps.heard bends.cut bsteps.sendsFrom bends.senderTransmits bsteps.resumesAt bsteps.senderHears bsteps.senderSends bsteps.senderTakes bsteps.judgeWhole bsteps.judgeRecord bsteps.judgeExtended bsteps.receiverHears bsteps.takesFrame bends.receiverTakes bsender.begin bends.transmit bsender.receive bends.fresh breceiver.withSaved bends.resume bends.receive
 opened = tt
 
 -- the name `A` is within the limits

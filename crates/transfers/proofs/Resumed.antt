@@ -13,6 +13,7 @@ use Rattle.fields.specs.declared.Stamp.the-variants.{Present}
 use Rattle.numbers.specs.Canonical.{isByte}
 use Rattle.lines.specs.Frame.{displayMark, stopFrame}
 use Rattle.packets.proofs.Whole.{byte-at}
+use Rattle.crc.specs.declared.Reading.the-variants.{Bare}
 use Rattle.calls.specs.declared.Outcome.the-variants.{Success}
 use Rattle.calls.specs.Checks.{isTaken}
 use Rattle.calls.specs.declared.Keeping.the-variants.{Of}
@@ -77,7 +78,7 @@ abbrev pub settingsY : Bool → yapp.Settings
 settingsY checks = record { block = 32; block-some = lit≤ tt; block-most = lit≤ tt; stamp = Present 7; stamp-fits = refl; checks = checks }
 
 abbrev pub settingsB : bin.Settings
-settingsB = record { block = 256; block-some = lit≤ tt; block-most = lit≤ tt; stamp = 7; stamp-fits = lit≤ tt }
+settingsB = record { block = 256; block-some = lit≤ tt; block-most = lit≤ tt; stamp = 7; stamp-fits = lit≤ tt; reading = Bare }
 
 -- by YAPP with checksums: with the first DT on the way a call is lent another area (40); the first and the second DT come in one chunk; eight
 -- DTs are taken, and of the ninth five bytes
@@ -153,10 +154,16 @@ counts2 = refl
 -- a session of #BIN#: the states of both ends, how many bytes are kept, and how many of the area are the file's
 abbrev stands : BinSenderState → BinReceiverState → ℕ → ℕ → bin.Config
 stands s r kept n = record {
-  snd = record { name = 65 ∷ replicate 63 0; core = record { state = s; announce = Announced 7 true; named = 1; size = 266; block = 256 } };
+  snd = record { name = 65 ∷ replicate 63 0; core = record { state = s; announce = Announced 7 true Bare; named = 1; size = 266; block = 256 } };
   rcv = record {
     name = 65 ∷ replicate 63 0;
-    core = record { state = r; room = 268; resumes = true; keeping = Of (record { named = 1; size = 266; kept = kept; stamp = Present 7 }) };
+    core = record {
+      state = r;
+      room = 268;
+      resumes = true;
+      reading = Bare;
+      keeping = Of (record { named = 1; size = 266; kept = kept; stamp = Present 7 });
+    };
   };
   area = holding n;
   toR = [];
@@ -166,7 +173,7 @@ stands s r kept n = record {
   laid = holding n;
 }
 
--- the line is accepted: the CRC of the file is 39340
+-- the line is accepted: the CRC of the file, by document 01's reading, is 39340
 abbrev accepted : bin.Config
 accepted = stands (Send 0) (Takes 39340) 0 256
 

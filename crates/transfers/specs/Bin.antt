@@ -9,6 +9,7 @@ use lib.ListN.{length, take}
 use Rattle.fields.specs.Pick.{pick}
 use Rattle.fields.specs.Lists.{same}
 use Rattle.lines.specs.Frame.{starts, okMark, displayMark, stopFrame}
+use Rattle.crc.specs.declared.Reading.{Reading}
 use Rattle.calls.specs.declared.Outcome.the-variants.{Success}
 use Rattle.calls.specs.declared.Status.{Status}
 use Rattle.calls.specs.declared.Status.the-variants.{Taken}
@@ -19,8 +20,8 @@ use Rattle.bin_receiver.specs.declared.Receiver.{Receiver}
 use Rattle.bin.specs.declared.ReceiverState.the-variants.{Ended as REnded}
 use Rattle.bin.specs.Steps.{senderEnded, receiverEnded}
 use Rattle.bin_sender.specs.Sender.{SenderAfter, begin, receive as receives, timeout as times, cancel as stops}
-use Rattle.bin_receiver.specs.Receiver.{ReceiverAfter, fresh, resume, recordBy, transmit as transmitsR, timeout as timesR, cancel as stopsR}
-use Rattle.transfers.specs.MachinesBin.{transmit as transmits, receive as receivesR}
+use Rattle.bin_receiver.specs.Receiver.{ReceiverAfter, recordBy, transmit as transmitsR, timeout as timesR, cancel as stopsR}
+use Rattle.transfers.specs.MachinesBin.{transmit as transmits, fresh, resume, receive as receivesR}
 use Rattle.transfers.specs.World.{World, Left, Act, transmitS, timeoutS, cancelS, transmitR, timeoutR, cancelR, receiveS, receiveR, atSender, Call, lentOr, ours, savedBytes, laidBy, NoStop}
 pub use Rattle.transfers.specs.World.{Fair, own, refused}
 
@@ -31,6 +32,8 @@ pub record Settings : Type 0 where
   pub block-most : block ≤ 256
   pub stamp : ℕ
   pub stamp-fits : stamp ≤ 0xFFFFFFFF
+  -- "the same setting at both ends in each #BIN# session" (request 2026-06)
+  pub reading : Reading
 
 -- the two ends, the area, the frames on the way to the receiver and to the sender, whether an OK was sent, which an observer sees, the tally,
 -- and the first area with the file's bytes laid where bytes came
@@ -45,15 +48,15 @@ pub record Config : Type 0 where
   pub laid : List ℕ
 
 -- the receiver begins from the record's bytes that the session before left
-abbrev pub receiverBy : ℕ → Option (List ℕ) → Receiver
-receiverBy room none = fresh room true
-receiverBy room (some b) = resume b room true
+abbrev pub receiverBy : ℕ → Reading → Option (List ℕ) → Receiver
+receiverBy room reading none = fresh room true reading
+receiverBy room reading (some b) = resume b room true reading
 
 -- "begun with two fresh ends, nothing on the way, and the area and record the one before left"; resume is allowed at both ends
 abbrev pub begins : World → Settings → Left → Config
 begins w t l = record {
-  snd = begin (w .name) (length (w .file)) (t .block) (t .stamp) true;
-  rcv = receiverBy (length (w .area)) (l .saved);
+  snd = begin (w .name) (length (w .file)) (t .block) (t .stamp) true (t .reading);
+  rcv = receiverBy (length (w .area)) (t .reading) (l .saved);
   area = l .area;
   toR = [];
   toS = [];

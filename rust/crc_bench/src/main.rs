@@ -1,4 +1,4 @@
-//! Compares `crc` with a CRC written apart from it, and times it against a Rust loop with a table of 256 entries.
+//! Compares `crc` with a CRC written apart from it, by both readings, and times it against a Rust loop with a table of 256 entries.
 //!
 //! `crc_bench compare` compares the results only; without a word it compares and then times.
 use std::hint::black_box;
@@ -12,21 +12,41 @@ const LONG: usize = 4_096;
 
 mod verified {
     extern "C" {
-        fn crc_walk(r: u16, s: *const u8, len: usize) -> u16;
+        fn crc_walk_bare(r: u16, s: *const u8, len: usize) -> u16;
+        fn crc_walk_augmented(r: u16, s: *const u8, len: usize) -> u16;
     }
 
-    pub fn walk(r: u16, s: &[u8]) -> u16 {
-        // SAFETY: crc_walk reads s.len() bytes from s.as_ptr() on, and keeps nothing.
-        unsafe { crc_walk(r, s.as_ptr(), s.len()) }
+    pub fn bare(r: u16, s: &[u8]) -> u16 {
+        // SAFETY: crc_walk_bare reads s.len() bytes from s.as_ptr() on, and keeps nothing.
+        unsafe { crc_walk_bare(r, s.as_ptr(), s.len()) }
+    }
+
+    pub fn augmented(r: u16, s: &[u8]) -> u16 {
+        // SAFETY: as above.
+        unsafe { crc_walk_augmented(r, s.as_ptr(), s.len()) }
     }
 }
 
 /// The remainder of r and the bytes behind it by x^16 + x^12 + x^5 + 1, bit by bit: no table.
-fn by_bits(r: u16, s: &[u8]) -> u16 {
+fn bare_bits(r: u16, s: &[u8]) -> u16 {
     let mut rest = u32::from(r);
     for &c in s {
         for bit in (0..8).rev() {
             rest = rest << 1 | u32::from(c >> bit & 1);
+            if rest > 0xFFFF {
+                rest ^= 0x11021;
+            }
+        }
+    }
+    rest as u16
+}
+
+/// The same with each bit added at x^16, as if sixteen zero bits stood behind the last.
+fn augmented_bits(r: u16, s: &[u8]) -> u16 {
+    let mut rest = u32::from(r);
+    for &c in s {
+        for bit in (0..8).rev() {
+            rest = rest << 1 ^ u32::from(c >> bit & 1) << 16;
             if rest > 0xFFFF {
                 rest ^= 0x11021;
             }
@@ -56,9 +76,9 @@ const fn table() -> [u16; 256] {
     entries
 }
 
-/// The Rust loop to be held against.
+/// The Rust loops to be held against.
 #[inline(never)]
-fn by_table(s: &[u8]) -> u16 {
+fn bare_table(s: &[u8]) -> u16 {
     let mut crc = 0;
     for &c in s {
         crc = TABLE[usize::from(crc >> 8)] ^ (crc << 8) ^ u16::from(c);
@@ -66,9 +86,49 @@ fn by_table(s: &[u8]) -> u16 {
     crc
 }
 
-/// In pieces too short for the rows, so by the table alone.
-fn in_pieces(r: u16, s: &[u8]) -> u16 {
-    s.chunks(LONG - 1).fold(r, verified::walk)
+#[inline(never)]
+fn augmented_table(s: &[u8]) -> u16 {
+    let mut crc = 0;
+    for &c in s {
+        crc = TABLE[usize::from(crc >> 8 ^ u16::from(c))] ^ (crc << 8);
+    }
+    crc
+}
+
+/// A reading of the CRC: the walk of `crc`, the one written apart from it, and the Rust loop.
+struct Reading {
+    name: &'static str,
+    walk: fn(u16, &[u8]) -> u16,
+    by_bits: fn(u16, &[u8]) -> u16,
+    by_table: fn(&[u8]) -> u16,
+    /// Of nothing, `A`, `AB`, `ABC`, `123456789` and 65,536 bytes 00 to FF over and over.
+    known: [u16; 6],
+}
+
+/// The known CRCs: the first four are document 01's, the first two of the other reading request 2026-06's; all others come of a script of the
+/// papers' rules, and 12739 is also the check value of CRC-16/XMODEM.
+const READINGS: [Reading; 2] = [
+    Reading {
+        name: "bare",
+        walk: verified::bare,
+        by_bits: bare_bits,
+        by_table: bare_table,
+        known: [0, 65, 16_706, 6_822, 48_879, 38_405],
+    },
+    Reading {
+        name: "augmented",
+        walk: verified::augmented,
+        by_bits: augmented_bits,
+        by_table: augmented_table,
+        known: [0, 22_757, 22_139, 14_740, 12_739, 58_088],
+    },
+];
+
+impl Reading {
+    /// In pieces too short for the rows, so by the table alone.
+    fn in_pieces(&self, r: u16, s: &[u8]) -> u16 {
+        s.chunks(LONG - 1).fold(r, self.walk)
+    }
 }
 
 /// Numbers that look like chance, the same in each run: xorshift.
@@ -97,20 +157,30 @@ struct Comparison {
 }
 
 impl Comparison {
-    fn expect(&mut self, what: &str, len: usize, r: u16, got: u16, want: u16) {
+    fn expect(&mut self, reading: &str, what: &str, len: usize, r: u16, got: u16, want: u16) {
         if got != want {
             self.wrong += 1;
-            eprintln!("DIFFERS: {what}, {len} bytes from {r}: {got}, and {want} is right");
+            eprintln!(
+                "DIFFERS: {reading}, {what}, {len} bytes from {r}: {got}, and {want} is right"
+            );
         }
     }
 
     fn compare(&mut self, r: u16, s: &[u8]) {
-        let want = by_bits(r, s);
         self.inputs += 1;
-        self.expect("the whole", s.len(), r, verified::walk(r, s), want);
-        self.expect("in pieces", s.len(), r, in_pieces(r, s), want);
+        let n = s.len();
+        for q in &READINGS {
+            let want = (q.by_bits)(r, s);
+            self.expect(q.name, "the whole", n, r, (q.walk)(r, s), want);
+            self.expect(q.name, "in pieces", n, r, q.in_pieces(r, s), want);
+            if r == 0 {
+                self.expect(q.name, "the Rust loop", n, r, (q.by_table)(s), want);
+            }
+        }
         if r == 0 {
-            self.expect("the Rust loop", s.len(), r, by_table(s), want);
+            let want = verified::bare(0, &[s, &[0, 0]].concat());
+            let got = verified::augmented(0, s);
+            self.expect("augmented", "two zeros behind", n, r, got, want);
         }
     }
 }
@@ -120,20 +190,15 @@ fn compare() -> Comparison {
         inputs: 0,
         wrong: 0,
     };
-    // Document 01's four, and what a script of its rule gives for the last two.
     let repeated: Vec<u8> = (0..AREA).map(|i| i as u8).collect();
-    let known: [(&[u8], u16); 6] = [
-        (b"", 0),
-        (b"A", 65),
-        (b"AB", 16_706),
-        (b"ABC", 6_822),
-        (b"123456789", 48_879),
-        (&repeated, 38_405),
-    ];
-    for (s, want) in known {
+    let inputs: [&[u8]; 6] = [b"", b"A", b"AB", b"ABC", b"123456789", &repeated];
+    for (i, s) in inputs.into_iter().enumerate() {
         c.inputs += 1;
-        c.expect("a known CRC", s.len(), 0, verified::walk(0, s), want);
-        c.expect("one in pieces", s.len(), 0, in_pieces(0, s), want);
+        for q in &READINGS {
+            let want = q.known[i];
+            c.expect(q.name, "a known CRC", s.len(), 0, (q.walk)(0, s), want);
+            c.expect(q.name, "one in pieces", s.len(), 0, q.in_pieces(0, s), want);
+        }
     }
     let mut numbers = Numbers(0x9E37_79B9_7F4A_7C15);
     let area = numbers.bytes(AREA);
@@ -170,20 +235,25 @@ fn report(what: &str, loops: &[f64], times: &[f64]) {
     );
 }
 
-/// All three in each round, so that they see the same machine.
+/// All of them in each round, so that they see the same machine.
 fn measure() {
     const ROUNDS: usize = 4_000;
     let area = Numbers(0x2545_F491_4F6C_DD1D).bytes(AREA);
-    let (mut loops, mut rows, mut tables) = (vec![], vec![], vec![]);
-    for _ in 0..ROUNDS {
-        loops.push(seconds(&mut || by_table(black_box(&area))));
-        rows.push(seconds(&mut || verified::walk(0, black_box(&area))));
-        tables.push(seconds(&mut || in_pieces(0, black_box(&area))));
-    }
     println!("{AREA} bytes, {ROUNDS} rounds          best    times the speed of the Rust loop: best over best, median [p10..p90]");
-    report("Rust loop, table of 256 entries", &loops, &loops);
-    report("crc, eight bytes at a time", &loops, &rows);
-    report("crc, byte by byte (pieces of 4095)", &loops, &tables);
+    let mut times = [const { [const { vec![] }; 3] }; READINGS.len()];
+    for _ in 0..ROUNDS {
+        for (q, [loops, rows, tables]) in READINGS.iter().zip(&mut times) {
+            loops.push(seconds(&mut || (q.by_table)(black_box(&area))));
+            rows.push(seconds(&mut || (q.walk)(0, black_box(&area))));
+            tables.push(seconds(&mut || q.in_pieces(0, black_box(&area))));
+        }
+    }
+    for (q, [loops, rows, tables]) in READINGS.iter().zip(&times) {
+        println!("{}", q.name);
+        report("Rust loop, table of 256 entries", loops, loops);
+        report("crc, eight bytes at a time", loops, rows);
+        report("crc, byte by byte (pieces of 4095)", loops, tables);
+    }
 }
 
 fn main() -> ExitCode {
@@ -205,7 +275,7 @@ fn main() -> ExitCode {
         return ExitCode::FAILURE;
     }
     println!(
-        "crc: the results on {} inputs are those of a CRC written apart from it",
+        "crc: the results on {} inputs, by both readings, are those of a CRC written apart from it",
         c.inputs
     );
     if !compares_only {

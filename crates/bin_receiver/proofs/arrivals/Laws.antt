@@ -24,7 +24,7 @@ module _ (t : ReceiverSettings) (v : Option Saved) (a : List ℕ) where
   basic size kept (x ∷ f) l = refl
 
   extended : (crc : ℕ) (f : List ℕ) → 0 < length f
-      → receiverTakes t (Extended crc) v a f ≡ sorted (Extended crc) v a f (takesFrame crc v a f)
+      → receiverTakes t (Extended crc) v a f ≡ sorted (Extended crc) v a f (takesFrame (t .reading) crc v a f)
   unfolding receiverTakes
   extended crc [] l = absurd (omega arith)
   extended crc (x ∷ f) l = refl
@@ -44,7 +44,7 @@ module _ (t : ReceiverSettings) (v : Option Saved) (a : List ℕ) where
     pub takes-basic : (size kept : ℕ) → st ≡ Basic size kept → F st ≡ sorted (Basic size kept) v a f (takesBasicFrame size kept v a f)
     takes-basic size kept e = ap F e ∙ basic size kept f l
 
-    pub takes-extended : (crc : ℕ) → st ≡ Extended crc → F st ≡ sorted (Extended crc) v a f (takesFrame crc v a f)
+    pub takes-extended : (crc : ℕ) → st ≡ Extended crc → F st ≡ sorted (Extended crc) v a f (takesFrame (t .reading) crc v a f)
     takes-extended crc e = ap F e ∙ extended crc f l
 
     pub takes-ended : (o : Outcome) → st ≡ Ended o → F st ≡ answers (Ended o) v a [] 0

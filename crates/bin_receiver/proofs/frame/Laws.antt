@@ -19,6 +19,7 @@ use Rattle.calls.specs.Saving.{savedBy, heldOf}
 use Rattle.calls.proofs.Names.{keep-front, keep-none}
 use Rattle.bin.specs.declared.ReceiverState.{ReceiverState}
 use Rattle.bin.specs.declared.ReceiverState.the-variants.{Ended}
+use Rattle.crc.specs.declared.Reading.{Reading}
 use Rattle.bin.specs.Steps.{ReceiverMove, answers, judgeWhole, basicAt, sorted, takesFrame, takesBasicFrame}
 
 -- frames for display, the stop frame and frames of the file
@@ -33,21 +34,21 @@ module _ (st : ReceiverState) (v : Option Saved) (a f : List ℕ) (file : Receiv
   sorted-file h e = rw (h, e)
 
 -- a frame of the file, by the record
-module _ (crc : ℕ) (e : Entry) (own a f : List ℕ) where
+module _ (reading : Reading) (crc : ℕ) (e : Entry) (own a f : List ℕ) where
   pub frame-within : (b : List ℕ) → leb (e .kept + length f) (e .size) ≡ true → b ≡ appended (e .kept) f a
-      → takesFrame crc (savedBy (Of e) own) a f
-      ≡ judgeWhole crc (some (record { size = e .size; kept = e .kept + length f; stamp = e .stamp; name = take (e .named) own })) b [] (length f)
+      → takesFrame reading crc (savedBy (Of e) own) a f
+      ≡ judgeWhole reading crc (some (record { size = e .size; kept = e .kept + length f; stamp = e .stamp; name = take (e .named) own })) b [] (length f)
   unfolding takesFrame
   frame-within b h q = rw (h, q)
 
   pub frame-past : leb (e .kept + length f) (e .size) ≡ false
-      → takesFrame crc (savedBy (Of e) own) a f ≡ answers (Ended PastSize) (savedBy (Of e) own) a (stopFrame ∷ []) 0
+      → takesFrame reading crc (savedBy (Of e) own) a f ≡ answers (Ended PastSize) (savedBy (Of e) own) a (stopFrame ∷ []) 0
   unfolding takesFrame
   frame-past h = rw h
 
-pub frame-none : (crc : ℕ) (a f : List ℕ) → 0 < length f → takesFrame crc none a f ≡ answers (Ended PastSize) none a (stopFrame ∷ []) 0
+pub frame-none : (reading : Reading) (crc : ℕ) (a f : List ℕ) → 0 < length f → takesFrame reading crc none a f ≡ answers (Ended PastSize) none a (stopFrame ∷ []) 0
 unfolding takesFrame
-frame-none crc a f l = rw (lt-leb (0 + length f) 0 (omega arith))
+frame-none reading crc a f l = rw (lt-leb (0 + length f) 0 (omega arith))
 
 -- the name of a record that is held stays
 module _ (e : Entry) (own : List ℕ) where

@@ -9,7 +9,7 @@ use borrow.Author.Tests.{le-leb, lt-leb}
 use types.Run.{OneOf, miss}
 use denote.Enum.Declared.{tagOf}
 use Rattle.fields.specs.declared.Stamp.the-variants.{Present}
-use Rattle.crc.specs.Crc.{crcOf}
+use Rattle.crc.specs.Crc.{crcBy}
 use Rattle.lines.specs.declared.Frame.{Frame}
 use Rattle.lines.specs.declared.Frame.the-variants.{Basic, Extended, MalformedLine, OK, OKName, OKKept, MalformedOK, NO, Stop, Display, Other}
 use Rattle.lines.proofs.Frame.{the-type}
@@ -53,8 +53,8 @@ module _ (t : ReceiverSettings) (a : List ℕ) where
     module _ (e : Entry) (own : List ℕ) where
       pub resumes-at : (resumable && t .resumes) ≡ true → matchesOf e own name size ≡ true
           → judgeRecord t (savedBy (Of e) own) a size crc stamp resumable name
-          ≡ judgeWhole crc (some (record { size = size; kept = e .kept; stamp = Present stamp; name = name })) a
-          (says (okKept name (e .kept) (crcOf (take (e .kept) a)))) 0
+          ≡ judgeWhole (t .reading) crc (some (record { size = size; kept = e .kept; stamp = Present stamp; name = name })) a
+          (says (okKept name (e .kept) (crcBy (t .reading) (take (e .kept) a)))) 0
       unfolding judgeRecord
       resumes-at h m = rw (h, m)
 

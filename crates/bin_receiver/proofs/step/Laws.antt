@@ -8,7 +8,8 @@ use borrow.Author.Tests.{eq-eqb, ne-eqb}
 use Rattle.fields.specs.Lists.{bytesAt, nowhere}
 use Rattle.fields.specs.Buffer.{appended}
 use Rattle.fields.specs.declared.Place.{Place}
-use Rattle.crc.specs.Crc.{crcOf}
+use Rattle.crc.specs.declared.Reading.{Reading}
+use Rattle.crc.specs.Crc.{crcBy}
 use Rattle.lines.specs.Frame.{stopFrame}
 use Rattle.records.specs.Saved.{Saved}
 use Rattle.calls.specs.declared.Outcome.the-variants.{Success, CheckFailed}
@@ -42,17 +43,17 @@ module _ (st : ReceiverState) (f own a : List ℕ) (out : Out) (n : ℕ) where
   named e place name l w = held (some (record { size = e .size; kept = e .kept; stamp = e .stamp; name = name })) (Of e) place (rw l) w
 
 -- an extended transfer at the announced size, and before it
-module _ (crc : ℕ) (v : Option Saved) (a : List ℕ) (reply : List (List ℕ)) (n : ℕ) where
-  pub whole-good : keptOf v ≡ sizeOf v → crcOf (take (sizeOf v) a) ≡ crc → judgeWhole crc v a reply n ≡ answers (Ended Success) v a reply n
+module _ (reading : Reading) (crc : ℕ) (v : Option Saved) (a : List ℕ) (reply : List (List ℕ)) (n : ℕ) where
+  pub whole-good : keptOf v ≡ sizeOf v → crcBy reading (take (sizeOf v) a) ≡ crc → judgeWhole reading crc v a reply n ≡ answers (Ended Success) v a reply n
   unfolding judgeWhole
-  whole-good h e = rw (eq-eqb (keptOf v) (sizeOf v) h, eq-eqb (crcOf (take (sizeOf v) a)) crc e)
+  whole-good h e = rw (eq-eqb (keptOf v) (sizeOf v) h, eq-eqb (crcBy reading (take (sizeOf v) a)) crc e)
 
-  pub whole-bad : keptOf v ≡ sizeOf v → (crcOf (take (sizeOf v) a) ≡ crc → ⊥)
-      → judgeWhole crc v a reply n ≡ answers (Ended CheckFailed) none a (stopFrame ∷ []) n
+  pub whole-bad : keptOf v ≡ sizeOf v → (crcBy reading (take (sizeOf v) a) ≡ crc → ⊥)
+      → judgeWhole reading crc v a reply n ≡ answers (Ended CheckFailed) none a (stopFrame ∷ []) n
   unfolding judgeWhole
-  whole-bad h e = rw (eq-eqb (keptOf v) (sizeOf v) h, ne-eqb (crcOf (take (sizeOf v) a)) crc e)
+  whole-bad h e = rw (eq-eqb (keptOf v) (sizeOf v) h, ne-eqb (crcBy reading (take (sizeOf v) a)) crc e)
 
-  pub whole-later : (keptOf v ≡ sizeOf v → ⊥) → judgeWhole crc v a reply n ≡ answers (Extended crc) v a reply n
+  pub whole-later : (keptOf v ≡ sizeOf v → ⊥) → judgeWhole reading crc v a reply n ≡ answers (Extended crc) v a reply n
   unfolding judgeWhole
   whole-later h = rw (ne-eqb (keptOf v) (sizeOf v) h)
 

@@ -8,7 +8,8 @@ use lib.ListN.{length, take}
 use Rattle.fields.specs.declared.Written.{Written}
 use Rattle.fields.specs.Buffer.{Form, bytesIn, appended, appendedEnd, writtenOf, leftOf}
 use Rattle.fields.proofs.Buffer.{over-none, append-fits}
-use Rattle.crc.specs.Crc.{crcOf}
+use Rattle.crc.specs.declared.Reading.{Reading}
+use Rattle.crc.specs.Crc.{crcBy}
 use Rattle.lines.specs.Element.{basicForm, lineForm, formOf}
 use Rattle.calls.specs.Count.{countOf}
 use Rattle.calls.proofs.Laws.{wrote as laid}
@@ -37,10 +38,10 @@ module _ (m : Sender) (file : List ℕ) where
   unfolding formOf
   line-basic e = rw e
 
-  pub line-extended : (stamp : ℕ) (resumes : Bool) (crc : ℕ) (own : List ℕ) → m .core .announce ≡ Extended stamp resumes → crc ≡ crcOf file
+  pub line-extended : (stamp : ℕ) (resumes : Bool) (reading : Reading) (crc : ℕ) (own : List ℕ) → m .core .announce ≡ Extended stamp resumes reading → crc ≡ crcBy reading file
       → own ≡ take (m .core .named) (m .name) → lineOf (settingsOf m) file ≡ bytesIn (lineForm (m .core .size) crc stamp resumes own)
   unfolding formOf
-  line-extended stamp resumes crc own e c n = rw (e, c, n)
+  line-extended stamp resumes reading crc own e c n = rw (e, c, n)
 
 -- the frames l: none, or one frame
 module _ (l : List (List ℕ)) (d : List ℕ) where

@@ -5,10 +5,10 @@ use Rattle.run_cuts.proofs.cuts.Statement.{statement}
 use Rattle.run_cuts.proofs.cuts.Tie as tie
 
 abbrev Inv-loop : tie.InvT-loop
-Inv-loop protocol file len before₀ whole₀ at₀ before whole at = at ≤ len + 1
+Inv-loop first then file len before₀ whole₀ at₀ before whole at = at ≤ len + 1
 
 abbrev μ-loop : tie.MeasureT-loop
-μ-loop protocol file len before₀ whole₀ at₀ before whole at = len + 1 - at
+μ-loop first then file len before₀ whole₀ at₀ before whole at = len + 1 - at
 
 loop-holds : tie.Need-loop-holds Inv-loop μ-loop
 loop-holds c = search needs

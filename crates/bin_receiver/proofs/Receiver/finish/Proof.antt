@@ -23,7 +23,7 @@ same-length c = search needs
 
 returns : tie.Need-returns
 returns c v a h =
-    let g = c .before .before .before .before .before .before .before .before .before .before .before .before .args in
+    let g = c .before .before .before .before .before .before .before .before .before .before .before .before .before .args in
     after-is (g .self) (g .shown) (now (g .reply)) v (now (g .frame)) (g .step) a h
     ∙ rw (c .before .before .before .before .before .append-bytes .ensures .1, c .before .before .put .ensures .0, c .before .before .put .ensures .1, c .before .before .before .before .before .before .before .before .bytes-at .ensures)
 

@@ -19,14 +19,14 @@ cast-at c = search needs
 append-bytes-requires : tie.Need-append-bytes-requires
 append-bytes-requires c κs = search needs
 
-cast-t15 : tie.Need-cast-t15
-cast-t15 c =
+cast-t16 : tie.Need-cast-t16
+cast-t16 c =
     let g = c .before .before .before .before .before .before .before .before .args in
     let z : g .entry .kept + length (now (g .frame)) ≤ g .entry .size = leb-true _ _ (sym (c .before .before .before .before .before .fits2 .ensures) ∙ c .before .before .before .before .if1 .taken) in
     search needs
 
-add-t16 : tie.Need-add-t16
-add-t16 c =
+add-t17 : tie.Need-add-t17
+add-t17 c =
     let g = c .before .before .before .before .before .before .before .before .args in
     let z : g .entry .kept + length (now (g .frame)) ≤ g .entry .size = leb-true _ _ (sym (c .before .before .before .before .before .fits2 .ensures) ∙ c .before .before .before .before .if1 .taken) in
     search needs
@@ -40,7 +40,7 @@ same-length c = search needs
 returns : tie.Need-returns
 returns c name h =
     let g = c .before .before .before .before .before .before .before .before .before .before .args in
-    ap (reached name) (frame-within (g .crc) (g .entry) name (now (g .area)) (now (g .frame)) _ (sym (c .before .before .before .before .before .before .before .fits2 .ensures) ∙ c .before .before .before .before .before .before .if1 .taken) (c .before .before .before .before .append-bytes .ensures .1))
+    ap (reached name) (frame-within (g .reading) (g .crc) (g .entry) name (now (g .area)) (now (g .frame)) _ (sym (c .before .before .before .before .before .before .before .fits2 .ensures) ∙ c .before .before .before .before .before .before .if1 .taken) (c .before .before .before .before .append-bytes .ensures .1))
     ∙ c .judge-whole .ensures (now (g .frame)) name (take (g .entry .named) name) (own-length (g .entry) name h) (own-stays (g .entry) name (now (g .frame)))
 
 end-requires : tie.Need-end-requires
@@ -49,7 +49,7 @@ end-requires c κs = search needs
 returns-2 : tie.Need-returns-2
 returns-2 c name h =
     let g = c .before .before .before .before .before .args in
-    ap (reached name) (frame-past (g .crc) (g .entry) name (now (g .area)) (now (g .frame)) (sym (c .before .before .fits2 .ensures) ∙ c .before .if1 .left))
+    ap (reached name) (frame-past (g .reading) (g .crc) (g .entry) name (now (g .area)) (now (g .frame)) (sym (c .before .before .fits2 .ensures) ∙ c .before .if1 .left))
     ∙ c .end .ensures (now (g .frame)) name (now (g .area)) h
 
 pub store-spec : {M : Type 1} → statement M
@@ -59,8 +59,8 @@ store-spec =
     fits-requires
     cast-at
     append-bytes-requires
-    cast-t15
-    add-t16
+    cast-t16
+    add-t17
     judge-whole-requires
     same-length
     returns

@@ -23,7 +23,7 @@ returns : tie.Need-returns
 returns c name =
     let g = c .before .before .before .before .before .args in
     rw (c .before .enum-told .given .1)
-    (λ h. ap (reached name) (frame-none (g .crc) (now (g .area)) (now (g .frame)) (c .before .before .before .before .before .pre)) ∙ c .end .ensures (now (g .frame)) name (now (g .area)) h)
+    (λ h. ap (reached name) (frame-none (g .reading) (g .crc) (now (g .area)) (now (g .frame)) (c .before .before .before .before .before .pre)) ∙ c .end .ensures (now (g .frame)) name (now (g .area)) h)
 
 same-length : tie.Need-same-length
 same-length c = search needs

@@ -19,7 +19,7 @@ go-requires c κs = search needs
 returns : tie.Need-returns
 returns c name h =
     let g = c .before .before .before .before .before .args in
-    ap (reached name) (sorted-display (Extended (g .crc)) (savedBy (g .keeping) name) (now (g .area)) (now (g .frame)) (takesFrame (g .crc) (savedBy (g .keeping) name) (now (g .area)) (now (g .frame))) (sym (c .before .before .is-display .ensures) ∙ c .before .if1 .taken))
+    ap (reached name) (sorted-display (Extended (g .crc)) (savedBy (g .keeping) name) (now (g .area)) (now (g .frame)) (takesFrame (g .reading) (g .crc) (savedBy (g .keeping) name) (now (g .area)) (now (g .frame))) (sym (c .before .before .is-display .ensures) ∙ c .before .if1 .taken))
     ∙ c .go .ensures (now (g .frame)) name (now (g .area)) h
 
 is-stop-requires : tie.Need-is-stop-requires
@@ -31,7 +31,7 @@ end-requires c κs = search needs
 returns-2 : tie.Need-returns-2
 returns-2 c name h =
     let g = c .before .before .before .before .before .before .before .args in
-    ap (reached name) (sorted-stop (Extended (g .crc)) (savedBy (g .keeping) name) (now (g .area)) (now (g .frame)) (takesFrame (g .crc) (savedBy (g .keeping) name) (now (g .area)) (now (g .frame))) (sym (c .before .before .before .before .is-display .ensures) ∙ c .before .before .before .if1 .left) (sym (c .before .before .is-stop .ensures) ∙ c .before .if2 .taken))
+    ap (reached name) (sorted-stop (Extended (g .crc)) (savedBy (g .keeping) name) (now (g .area)) (now (g .frame)) (takesFrame (g .reading) (g .crc) (savedBy (g .keeping) name) (now (g .area)) (now (g .frame))) (sym (c .before .before .before .before .is-display .ensures) ∙ c .before .before .before .if1 .left) (sym (c .before .before .is-stop .ensures) ∙ c .before .if2 .taken))
     ∙ c .end .ensures (now (g .frame)) name (now (g .area)) h
 
 store-kept-requires : tie.Need-store-kept-requires
@@ -43,7 +43,7 @@ same-length c = search needs
 returns-3 : tie.Need-returns-3
 returns-3 c name h =
     let g = c .before .before .before .before .before .before .before .before .before .before .args in
-    ap (reached name) (sorted-file (Extended (g .crc)) (savedBy (g .keeping) name) (now (g .area)) (now (g .frame)) (takesFrame (g .crc) (savedBy (g .keeping) name) (now (g .area)) (now (g .frame))) (sym (c .before .before .before .before .before .before .before .is-display .ensures) ∙ c .before .before .before .before .before .before .if1 .left) (sym (c .before .before .before .before .before .is-stop .ensures) ∙ c .before .before .before .before .if2 .left))
+    ap (reached name) (sorted-file (Extended (g .crc)) (savedBy (g .keeping) name) (now (g .area)) (now (g .frame)) (takesFrame (g .reading) (g .crc) (savedBy (g .keeping) name) (now (g .area)) (now (g .frame))) (sym (c .before .before .before .before .before .before .before .is-display .ensures) ∙ c .before .before .before .before .before .before .if1 .left) (sym (c .before .before .before .before .before .is-stop .ensures) ∙ c .before .before .before .before .if2 .left))
     ∙ c .before .before .store-kept .ensures name h
 
 pub take-extended-spec : {M : Type 1} → statement M

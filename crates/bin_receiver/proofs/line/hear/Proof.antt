@@ -4,7 +4,8 @@ use denote.Ref.{now}
 use Rattle.lines.specs.Element.{contentOf}
 use Rattle.calls.specs.Saving.{savedBy}
 use Rattle.bin.specs.Steps.{receiverHears}
-use Rattle.bin_receiver.specs.Step.{settingsBy, reached}
+use Rattle.bin_receiver.specs.Receiver.{settingsBy}
+use Rattle.bin_receiver.specs.Step.{reached}
 use Rattle.bin_receiver.proofs.line.Laws.{hears-as, hears-other}
 use borrow.Author.Needs.{needs}
 use Rattle.bin_receiver.proofs.line.hear.Statement.{statement}

@@ -2,7 +2,8 @@
 use mathlib.Core.Path.{refl, ap, _∙_}
 use Rattle.calls.specs.declared.Keeping.{Keeping}
 use Rattle.calls.specs.Saving.{savedBy}
-use Rattle.bin_receiver.specs.Step.{settingsBy, reached}
+use Rattle.bin_receiver.specs.Receiver.{settingsBy}
+use Rattle.bin_receiver.specs.Step.{reached}
 use Rattle.bin_receiver.proofs.line.Laws.{basic-over, basic-fits, held-as}
 use borrow.Author.Needs.{needs}
 use Rattle.bin_receiver.proofs.line.judge_basic.Statement.{statement}

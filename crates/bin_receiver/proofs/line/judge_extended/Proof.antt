@@ -5,7 +5,8 @@ use Rattle.fields.specs.Lists.{bytesAt}
 use Rattle.calls.specs.declared.Keeping.{Keeping}
 use Rattle.calls.specs.Saving.{savedBy}
 use Rattle.bin.specs.Steps.{judgeRecord}
-use Rattle.bin_receiver.specs.Step.{settingsBy, reached}
+use Rattle.bin_receiver.specs.Receiver.{settingsBy}
+use Rattle.bin_receiver.specs.Step.{reached}
 use Rattle.bin_receiver.proofs.line.Laws.{extended-over, extended-fits, held-as}
 use borrow.Author.Needs.{needs}
 use Rattle.bin_receiver.proofs.line.judge_extended.Statement.{statement}

@@ -2,7 +2,8 @@
 use mathlib.Core.Path.{refl, ap, sym, _∙_}
 use denote.Ref.{now}
 use Rattle.fields.specs.Lists.{bytesAt}
-use Rattle.bin_receiver.specs.Step.{settingsBy, reached}
+use Rattle.bin_receiver.specs.Receiver.{settingsBy}
+use Rattle.bin_receiver.specs.Step.{reached}
 use Rattle.bin_receiver.proofs.line.Laws.{resumes-at, resumes-other, resumes-off}
 use borrow.Author.Needs.{needs}
 use Rattle.bin_receiver.proofs.line.resume_by.Statement.{statement}
@@ -20,8 +21,8 @@ cast-part c = search needs
 part-requires : tie.Need-part-requires
 part-requires c κs = search needs
 
-crc-of-requires : tie.Need-crc-of-requires
-crc-of-requires c κs = search needs
+crc-by-requires : tie.Need-crc-by-requires
+crc-by-requires c κs = search needs
 
 entry-of-requires : tie.Need-entry-of-requires
 entry-of-requires c κs = search needs
@@ -33,7 +34,7 @@ returns : tie.Need-returns
 returns c h =
     let g = c .before .before .before .before .before .before .before .before .before .before .before .before .args in
     ap (reached (now (g .name))) (resumes-at (settingsBy (g .core)) (now (g .area)) (g .line .size) (g .line .crc) (g .line .stamp) (g .line .resumable) (bytesAt (now (g .frame)) (g .line .name)) (g .entry) (now (g .name)) (sym (c .before .before .before .before .before .before .before .before .both .ensures) ∙ c .before .before .before .before .before .before .before .if1 .taken) (sym (c .before .before .before .before .before .before .matches .ensures) ∙ c .before .before .before .before .before .if2 .taken))
-    ∙ (rw (c .before .entry-of .ensures, c .before .before .crc-of .ensures, c .before .before .before .part .ensures) at (c .judge-whole .ensures (now (g .frame)) (now (g .name)) (bytesAt (now (g .frame)) (g .line .name)))) refl refl
+    ∙ (rw (c .before .entry-of .ensures, c .before .before .crc-by .ensures, c .before .before .before .part .ensures) at (c .judge-whole .ensures (now (g .frame)) (now (g .name)) (bytesAt (now (g .frame)) (g .line .name)))) refl refl
 
 end-requires : tie.Need-end-requires
 end-requires c κs = search needs
@@ -61,7 +62,7 @@ resume-by-spec =
     matches-requires
     cast-part
     part-requires
-    crc-of-requires
+    crc-by-requires
     entry-of-requires
     judge-whole-requires
     returns

@@ -23,8 +23,8 @@ slice-aggregate-all c = search needs
 part-requires : tie.Need-part-requires
 part-requires c κs = search needs
 
-crc-of-requires : tie.Need-crc-of-requires
-crc-of-requires c κs = search needs
+crc-by-requires : tie.Need-crc-by-requires
+crc-by-requires c κs = search needs
 
 write-line-requires : tie.Need-write-line-requires
 write-line-requires c κs = search needs
@@ -46,7 +46,7 @@ same-length-2 c = search needs
 returns-2 : tie.Need-returns-2
 returns-2 c =
     let s = c .before .before .before .before .before .before .before .before .before .before .before .before .before .before .before in
-    wrote _ _ _ _ _ _ (line-extended (s .args .sender) (now (s .args .file)) _ _ _ _ (c .before .before .before .before .before .before .before .before .before .before .announce .given .1) (c .before .before .before .before .before .crc-of .ensures) (c .before .before .before .before .before .before .part .ensures)) (s .pre) (c .count2 .ensures) (c .before .before .before .write-line .ensures)
+    wrote _ _ _ _ _ _ (line-extended (s .args .sender) (now (s .args .file)) _ _ _ _ _ (c .before .before .before .before .before .before .before .before .before .before .announce .given .1) (c .before .before .before .before .before .crc-by .ensures) (c .before .before .before .before .before .before .part .ensures)) (s .pre) (c .count2 .ensures) (c .before .before .before .write-line .ensures)
 
 pub put-line-spec : {M : Type 1} → statement M
 put-line-spec =
@@ -58,7 +58,7 @@ put-line-spec =
     enum-known-announce
     slice-aggregate-all
     part-requires
-    crc-of-requires
+    crc-by-requires
     write-line-requires
     count-requires-2
     same-length

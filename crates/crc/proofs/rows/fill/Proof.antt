@@ -10,10 +10,10 @@ use Rattle.crc.proofs.rows.fill.Statement.{statement}
 use Rattle.crc.proofs.rows.fill.Tie as tie
 
 abbrev Inv-loop : tie.InvT-loop
-Inv-loop t rows₀ i₀ rows i = (i ≤ 2048) × (length rows ≡ 2048) × Filled i rows
+Inv-loop t rows₀ i₀ rows i = (i ≤ 2560) × (length rows ≡ 2560) × Filled i rows
 
 abbrev μ-loop : tie.MeasureT-loop
-μ-loop t rows₀ i₀ rows i = 2048 - i
+μ-loop t rows₀ i₀ rows i = 2560 - i
 
 loop-holds : tie.Need-loop-holds Inv-loop μ-loop
 loop-holds c = (omega arith, c .pre .1, filled-none (c .args .rows .now))
@@ -41,7 +41,7 @@ loop-again c =
 returns : tie.Need-returns Inv-loop μ-loop
 returns c =
     let l = c .before .loop in
-    let e : l .i ≡ 2048 = omega arith in
+    let e : l .i ≡ 2560 = omega arith in
     subst (λ (n : ℕ). Filled n (l .rows)) e (l .inv .2)
 
 pub fill-spec : {M : Type 1} → statement M

@@ -10,10 +10,10 @@ use Rattle.crc.proofs.rows.walk_by.Statement.{statement}
 use Rattle.crc.proofs.rows.walk_by.Tie as tie
 
 abbrev Inv-loop : tie.InvT-loop
-Inv-loop t rows r s crc₀ i₀ crc i = (i ≤ length s) × (walkFrom r s ≡ walkFrom crc (drop i s))
+Inv-loop t rows q r s crc₀ i₀ crc i = (i ≤ length s) × (walkFrom q r s ≡ walkFrom q crc (drop i s))
 
 abbrev μ-loop : tie.MeasureT-loop
-μ-loop t rows r s crc₀ i₀ crc i = length s - i
+μ-loop t rows q r s crc₀ i₀ crc i = length s - i
 
 loop-holds : tie.Need-loop-holds Inv-loop μ-loop
 loop-holds c = (omega arith, refl)
@@ -77,9 +77,10 @@ loop-less c = omega arith
 
 loop-again : tie.Need-loop-again Inv-loop μ-loop
 loop-again c =
-    let s = c .before .before .before .before .before .before .before .before .before .before .before .before .args .s .now in
+    let x = c .before .before .before .before .before .before .before .before .before .before .before .before .args in
+    let s = x .s .now in
     let l = c .before .before .before .before .before .before .before .before .before .before .loop in
-    (omega arith, l .inv .1 ∙ walk-eight (l .crc) s (l .i) (c .step-eight .result) (omega arith) (c .step-eight .ensures))
+    (omega arith, l .inv .1 ∙ walk-eight (x .reading) (l .crc) s (l .i) (c .step-eight .result) (omega arith) (c .step-eight .ensures))
 
 sub-walk-by : tie.Need-sub-walk-by Inv-loop μ-loop
 sub-walk-by c = omega arith
@@ -95,9 +96,9 @@ walk-by-requires c κs = c .before .before .before .before .pre .0
 
 returns : tie.Need-returns Inv-loop μ-loop
 returns c =
-    let s = c .before .before .before .before .before .args .s .now in
+    let x = c .before .before .before .before .before .args in
     let l = c .before .before .before .loop in
-    c .walk-by .ensures ∙ ap (walkFrom (l .crc)) (rest s (l .i)) ∙ sym (l .inv .1)
+    c .walk-by .ensures ∙ ap (walkFrom (x .reading) (l .crc)) (rest (x .s .now) (l .i)) ∙ sym (l .inv .1)
 
 pub walk-by-spec : {M : Type 1} → statement M
 walk-by-spec =
