@@ -65,6 +65,7 @@ pub record ReceiverAfter : Type 0 where
   pub area : List ℕ
   pub reply : List ℕ
 
+-- what a receiver was begun with, as `bin` has it
 abbrev pub settingsBy : ReceiverCore → ReceiverSettings
 settingsBy c = record { room = c .room; resumes = c .resumes; reading = c .reading }
 

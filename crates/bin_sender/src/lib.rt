@@ -84,8 +84,8 @@ impl Sender {
         }
     }
 
-    // A sender of an extended transfer; resumes says whether `?` is sent, reading which reading the session's CRCs go by. One that is refused
-    // (3, 4, 5) has ended.
+    // A sender of an extended transfer; resumes says whether `?` is sent, and the session's CRCs go by the reading. One that is refused (3, 4, 5)
+    // has ended.
     pub fn begin(
         name: &[u8],
         size: usize,

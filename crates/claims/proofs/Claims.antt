@@ -57,9 +57,9 @@ use Rattle.transfers.proofs.Demand as demand
 use Rattle.transfers.proofs.Examples.{Agree, examples}
 use Rattle.transfers.proofs.Examples as worked
 
--- ---- DEMAND 3 (crates/transfers). Of every file, name and area within document 01's limits (World) and every list of sessions, each by YAPP or
--- extended #BIN# (set to one reading of the CRC at both ends, from session to session as they like), each a list of calls of any kind at its
--- two ends over a link that keeps bytes and their order (FairIn, FairAll):
+-- ---- DEMAND 3 (crates/transfers). Of every file, name and area within document 01's limits (World) and every list of sessions, each by YAPP, or
+-- by extended #BIN# with the same reading of the CRC at both ends, each a list of calls of any kind at its two ends over a link that keeps
+-- bytes and their order (FairIn, FairAll):
 
 -- after every call the kept bytes are the file's beginning, as many as came less each fall at RE, and the record says how many; every byte past the
 -- file's length is as before the first session, and no byte changes but to the file's own, where it came (Safe)
