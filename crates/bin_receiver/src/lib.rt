@@ -121,7 +121,7 @@ impl Receiver {
         Receiver::ended(Outcome::RecordOver, room, resumes, reading)
     }
 
-    // The same with the record that these bytes are, in place of none; unreadable ones are 1, a record out of its limits is 2.
+    // A receiver with the record that these bytes are, and CRCs as in `fresh`; unreadable ones are 1, a record out of its limits is 2.
     pub fn resume(bytes: &[u8], room: usize, resumes: bool, reading: Reading) -> Self
         ensures { λ r. ⌜ r ≡ resumeOf (now (bytes .entry)) room resumes reading ⌝ }
     {

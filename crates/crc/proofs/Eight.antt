@@ -41,7 +41,7 @@ times-parts k r h =
     ∙ times-xor k (r / 256 * 256) (r % 256) (omega arith) (omega arith)
     ∙ ap (λ (n : ℕ). bitXor n (times k (r % 256))) (ap (times k) (sym (byte-times (r / 256) (omega arith))) ∙ times-add k 8 (r / 256))
 
--- a step multiplies by x^8 and adds the byte
+-- a step multiplies by x^8 and adds the byte, as it is or times x^16
 pub step-times : (q : Reading) (r c : ℕ) → r < 2 ^ 16 → c < 256 → byteStep q r c ≡ bitXor (times 8 r) (times (8 * rowOf q) c)
 unfolding byteStep times
 step-times Bare r c h k = rw (times-parts 8 r h, entry-times (r / 256) (omega arith), byte-times (r % 256) (omega arith)) refl

@@ -18,7 +18,7 @@ times (suc k) r = reduced (times k r * 2)
 unfoldable pub rowsAt : ℕ → ℕ
 rowsAt i = times (8 * (i / 256)) (i % 256)
 
--- the row in which the last byte of eight is looked up: a byte goes in as it is, or times x^16
+-- the row in which the last byte of eight is looked up: by the old reading a byte goes in as it is, by the new one times x^16
 abbrev pub rowOf : Reading → ℕ
 rowOf Bare = 0
 rowOf Augmented = 2

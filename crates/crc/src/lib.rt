@@ -1,5 +1,7 @@
 // The CRC of #BIN#, by the table of remainders, in the two readings of request 2026-06.
 ghost use mathlib.Core.Path.{_≡_};
+ghost use Prim.Native.Nat.{_/_, _<_};
+ghost use lib.Bits.{bitXor};
 ghost use Rattle.crc.specs.Crc.{entry, table, byteStep, walkFrom, crcBy};
 
 mod rows;
@@ -289,6 +291,13 @@ pub fn entry(i: u8) -> u16
     t[k]
 }
 
+// By the new reading the byte c goes into the index: the high byte of r xor c.
+fn index_of(r: u16, c: u8) -> u16
+    ensures { λ i. ⌜ (i ≡ bitXor (r / 256) c) × (i < 256) ⌝ }
+{
+    (r / 256) ^ (c as u16)
+}
+
 // One byte, by the table that the caller holds: a constant indexed here would be copied at every byte.
 fn step(t: &[u16; 256], reading: Reading, r: u16, c: u8) -> u16
     requires { ⌜ now t ≡ table ⌝ }
@@ -296,7 +305,7 @@ fn step(t: &[u16; 256], reading: Reading, r: u16, c: u8) -> u16
 {
     match reading {
         Reading::Bare => t[(r / 256) as usize] ^ (r % 256 * 256) ^ (c as u16),
-        Reading::Augmented => t[((r / 256) ^ (c as u16)) as usize] ^ (r % 256 * 256),
+        Reading::Augmented => t[index_of(r, c) as usize] ^ (r % 256 * 256),
     }
 }
 

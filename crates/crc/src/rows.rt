@@ -38,7 +38,8 @@ fn entry_at(rows: &[u16; 2560], at: usize, b: u8) -> u16
     rows[at + b as usize]
 }
 
-// Where the row starts in which the last byte of eight is looked up.
+// Where the row starts in which the last byte of eight is looked up, each byte before it a row further up. By the new reading bytes go in times
+// x^16, so two rows further up.
 fn start_of(reading: Reading) -> usize
     ensures { λ r. ⌜ (r ≡ rowOf reading * 256) × (r ≤ 512) ⌝ }
 {
@@ -112,7 +113,7 @@ fn walk_by(t: &[u16; 256], rows: &[u16; 2560], reading: Reading, r: u16, s: &[u8
     crate::walk_by(t, reading, crc, &s[i..])
 }
 
-// The CRC goes on over s from the value r; the rows are made first.
+// The CRC by a reading goes on over s from the value r; the rows are made first.
 pub fn walk(reading: Reading, r: u16, s: &[u8]) -> u16
     ensures { λ x. ⌜ x ≡ walkFrom reading r (now (s .entry)) ⌝ }
 {

@@ -1,10 +1,11 @@
 // Breaks a session off behind every byte that passes between the ends, and resumes it to its end: by YAPP, without and with checksums, and by
-// #BIN#, by either reading of the CRC, and broken by the one and resumed by the other. A line for each cut from which on the record says something else; the last line of a session says `all whole` only if after each cut
-// the record was that of the file, and the area its kept bytes and behind them what it was, and after each resumed session both ends ended
-// with success, the record had all bytes and the area was the file and behind it what it was, byte by byte.
+// #BIN#, by either reading of the CRC, and broken by the one and resumed by the other. A line for each cut from which on the record says
+// something else; the last line of a session says `all whole` only if after each cut the record was that of the file, and the area its kept
+// bytes and behind them what it was, and after each resumed session both ends ended with success, the record had all bytes and the area was
+// the file and behind it what it was, byte by byte.
 //
-// Then runs sessions of #BIN# whose ends are set to unlike readings, from no record, and from each kept count that a session of document 01's
-// reading leaves. A line for each count from which on the ends end with other numbers.
+// Then runs sessions of #BIN# whose ends are set to unlike readings, from no record, from each kept count that a session of document 01's reading
+// leaves, and with an empty file. A line for each count from which on the ends end with other numbers.
 //
 // Then sends files made of `SP\-` and of the stop frame by #BIN#, at every block from 1 to 12. A line for each block has the frames of the
 // file, and says whether it came whole.
@@ -187,7 +188,7 @@ fn try_apart(readings: Readings, kept: usize, before: usize, file: &[u8]) -> usi
     now
 }
 
-// From no record, and then from each kept count of a file of 20 bytes.
+// From no record, then from each kept count of a file of 20 bytes, and then with an empty file.
 fn apart(readings: Readings, file: &[u8]) {
     put(b"no record");
     put_numbers(bin_link::session(link::nothing(), ALL, 8, readings, false, file));

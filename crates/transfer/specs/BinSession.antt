@@ -58,7 +58,8 @@ turn file st =
 abbrev pub receiverOf : Saved → ℕ → Receiver
 receiverOf before room = pick (eqb (before .count) 0) (fresh room true Bare) (resume (take (before .count) (before .bytes)) room true Bare)
 
--- blocks of 256 bytes, a line with date and time, document 01's reading of the CRC, and both ends resume; the link carries a frame whole or not at all
+-- blocks of 256 bytes, a line with date and time, document 01's reading of the CRC, and both ends resume; the link carries a frame whole or
+-- not at all
 unfoldable pub begin : Saved → List ℕ → ℕ → ℕ → ℕ → Ends
 begin before name left size room = record {
   sender = beginSender name size 256 fileStamp true Bare;
