@@ -222,7 +222,8 @@ little-read = numbers.read-little
 pub little-back : (v : ℕ) (s : List ℕ) → readLittle s ≡ Value v → all isByte s ≡ true → little (length s) v ≡ s
 little-back = numbers.little-back
 
--- ---- DOCUMENT 01'S EXAMPLES MARKED P, AND REQUEST 2026-06'S, each what the paper prints (the list: crates/transfers/proofs/Examples.antt)
+-- ---- DOCUMENT 01'S EXAMPLES MARKED P, AND REQUEST 2026-06'S, each what the paper prints or its rule gives (the list:
+-- crates/transfers/proofs/Examples.antt)
 
 pub examples-agree : Agree examples
 examples-agree = worked.agree
