@@ -93,15 +93,15 @@ unfoldable pub resumesAt : SenderSettings → List ℕ → ℕ → ℕ → Sende
 resumesAt s file kept crc =
     pick (isOurs s file (s .announce) kept crc) (goes (sendsFrom file kept) []) (stops NotOurs)
 
--- while waiting: `#NO#` is 14, stop is 15, a malformed OK is 7; others not starting `#OK#` are ignored
+-- while waiting: `#NO#` is 14, stop is 15, a malformed OK is 7 with its place; others not starting `#OK#` are ignored
 unfoldable pub senderHears : SenderSettings → List ℕ → Element → SenderMove
 senderHears s file (basic size) = goes Wait []
 senderHears s file (extended size crc stamp resumable name) = goes Wait []
-senderHears s file malformedLine = goes Wait []
+senderHears s file (malformedLine f) = goes Wait []
 senderHears s file ok = goes (sendsFrom file 0) []
 senderHears s file (okName name) = goes (sendsFrom file 0) []
 senderHears s file (okKept name kept crc) = resumesAt s file kept crc
-senderHears s file malformedOK = stops Malformed
+senderHears s file (malformedOK f) = stops (Malformed f)
 senderHears s file (no text) = goes (Ended Refused) []
 senderHears s file stop = goes (Ended Cancelled) []
 senderHears s file (display text) = goes Wait []
@@ -196,15 +196,15 @@ basicOver (some v) a size = refuses (some v) a HaveFile haveText
 unfoldable pub judgeBasic : ReceiverSettings → Option Saved → List ℕ → ℕ → ReceiverMove
 judgeBasic t v a size = pick (leb size (t .room)) (basicOver v a size) (refuses v a NoRoom roomText)
 
--- while it waits, frames not starting with `#BIN#` are ignored; a malformed line is 7
+-- while it waits, frames not starting with `#BIN#` are ignored; a malformed line is 71 to 76 or 7 with its place
 unfoldable pub receiverHears : ReceiverSettings → Option Saved → List ℕ → Element → ReceiverMove
 receiverHears t v a (basic size) = judgeBasic t v a size
 receiverHears t v a (extended size crc stamp resumable name) = judgeExtended t v a size crc stamp resumable name
-receiverHears t v a malformedLine = refuses v a Malformed formatText
+receiverHears t v a (malformedLine f) = refuses v a (Malformed f) formatText
 receiverHears t v a ok = answers Waiting v a [] 0
 receiverHears t v a (okName name) = answers Waiting v a [] 0
 receiverHears t v a (okKept name kept crc) = answers Waiting v a [] 0
-receiverHears t v a malformedOK = answers Waiting v a [] 0
+receiverHears t v a (malformedOK f) = answers Waiting v a [] 0
 receiverHears t v a (no text) = answers Waiting v a [] 0
 receiverHears t v a stop = answers Waiting v a [] 0
 receiverHears t v a (display text) = answers Waiting v a [] 0

@@ -122,7 +122,12 @@ pub fn hear(core: ReceiverCore, frame: &[u8], name: &[u8], area: &[u8]) -> Step
     match line_reader::frame_of(frame) {
         Frame::Basic(size) => judge_basic(core, size),
         Frame::Extended(line) => judge_extended(core, line, frame, name, area),
-        Frame::MalformedLine => step::end(Outcome::Malformed, keeping, Out::Format, 0),
+        Frame::MalformedLine(fault) => step::end(
+            Outcome::Malformed(fault),
+            keeping,
+            Out::Format,
+            0,
+        ),
         _ => step::go(ReceiverState::Waiting, keeping, Out::Silent, 0),
     }
 }

@@ -31,7 +31,7 @@ pub struct ReceiverCore {
 // What is said.
 pub enum Out {
     Silent,
-    // `#NO#` with the text of 7, 8, 9 or 10.
+    // `#NO#` with the text of 71 to 76 and 7, 8, 9 or 10.
     Format,
     Room,
     Have,

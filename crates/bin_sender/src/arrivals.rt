@@ -57,7 +57,7 @@ fn hear(sender: Sender, frame: &[u8], file: &[u8]) -> Step
     match got {
         Frame::OK | Frame::OKName(_) => step::stays(step::sends_from(file, 0)),
         Frame::OKKept(k) => resume_at(sender, file, k.kept, k.crc),
-        Frame::MalformedOK => step::stops(Outcome::Malformed),
+        Frame::MalformedOK(fault) => step::stops(Outcome::Malformed(fault)),
         Frame::NO(_) => step::stays(SenderState::Ended {
             outcome: Outcome::Refused,
         }),
@@ -66,7 +66,7 @@ fn hear(sender: Sender, frame: &[u8], file: &[u8]) -> Step
         }),
         Frame::Basic(_)
         | Frame::Extended(_)
-        | Frame::MalformedLine
+        | Frame::MalformedLine(_)
         | Frame::Display(_)
         | Frame::Other => step::stays(SenderState::Wait),
     }

@@ -1,4 +1,5 @@
 // What the calls of every sender and receiver have in common.
+use fields::Fault;
 use fields::Limits;
 use fields::Stamp;
 use fields::Written;
@@ -24,8 +25,8 @@ pub enum Outcome {
     BlockOutside,
     // 6: a packet that is not in the state's row, or unreadable bytes.
     Unexpected,
-    // 7: a malformed header, line or OK.
-    Malformed,
+    // 71 to 76 and 7: a malformed header, line or OK, and where it is wrong.
+    Malformed(Fault),
     // 8: the file is larger than the area.
     NoRoom,
     // 9: there is a record, and no resume.
@@ -50,6 +51,12 @@ pub enum Outcome {
     SecondFile,
     // 23: the operator's stop.
     Stopped,
+}
+
+// The place that goes with a malformed header, line or OK: in its data or in the frame.
+pub enum Offset {
+    At(usize),
+    Nowhere,
 }
 
 // Whether a call was taken, or why it was refused: a refused call changes nothing anywhere.

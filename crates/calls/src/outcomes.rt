@@ -1,14 +1,34 @@
-// Document 01's number of every answer. ("Numbers that refuse or end".)
+// The number of every answer. (Document 01, "Numbers that refuse or end", and change request 2026-02.)
+use crate::Offset;
 use crate::Outcome;
 use crate::RecordAnswer;
 use crate::Status;
+use fields::Fault;
+use fields::Flaw;
 use fields::Written;
 use records::RecordRead;
 ghost use mathlib.Core.Path.{_≡_};
+ghost use Rattle.fields.specs.Faults.{flawNumber};
 ghost use Rattle.fields.specs.Buffer.{writtenNumber};
 ghost use Rattle.records.specs.Record.{readNumber};
-ghost use Rattle.calls.specs.Numbers.{outcomeNumber, statusNumber};
+ghost use Rattle.calls.specs.Numbers.{outcomeNumber, outcomeOffset, statusNumber};
 ghost use Rattle.calls.specs.Recording.{recordNumber};
+
+// 71 to 76; 7 for every other fault.
+fn fault_number(fault: Fault) -> u8
+    ensures { λ r. ⌜ r ≡ flawNumber (fault .flaw) ⌝ }
+{
+    let flaw = fault.flaw;
+    match flaw {
+        Flaw::NameOpen => 71,
+        Flaw::NameLength => 72,
+        Flaw::NameByte => 73,
+        Flaw::NoDigits => 74,
+        Flaw::ManyDigits => 75,
+        Flaw::SizeOpen => 76,
+        Flaw::Other => 7,
+    }
+}
 
 // How an end ended: 0 for success, else the number that ended it.
 pub fn outcome_number(outcome: Outcome) -> u8
@@ -22,7 +42,7 @@ pub fn outcome_number(outcome: Outcome) -> u8
         Outcome::LengthOutside => 4,
         Outcome::BlockOutside => 5,
         Outcome::Unexpected => 6,
-        Outcome::Malformed => 7,
+        Outcome::Malformed(fault) => fault_number(fault),
         Outcome::NoRoom => 8,
         Outcome::HaveFile => 9,
         Outcome::Differs => 10,
@@ -36,6 +56,16 @@ pub fn outcome_number(outcome: Outcome) -> u8
         Outcome::SecondFile => 21,
         Outcome::Stopped => 23,
     }
+}
+
+// The place that goes with 71 to 76 and 7; no other number has one.
+pub fn outcome_offset(outcome: Outcome) -> Offset
+    ensures { λ r. ⌜ r ≡ outcomeOffset outcome ⌝ }
+{
+    let Outcome::Malformed(fault) = outcome else {
+        return Offset::Nowhere;
+    };
+    Offset::At(fault.offset)
 }
 
 // The number that refused a call; 0 where it was taken.

@@ -5,10 +5,14 @@ use Prim.Native.Nat.{ℕ, suc, _≤_, _<_, _^_}
 use mathlib.Core.Path.{_≡_}
 use mathlib.Core.Bool.{Bool, true, false}
 use mathlib.Core.List.{List, [], _∷_, _++_, flatten}
-use lib.ListN.{length, getD}
+use mathlib.Core.Logic.{_⊎_}
+use mathlib.Core.Option.{Option}
+use lib.ListN.{length, getD, drop}
 use Rattle.fields.specs.Name.{isName}
 use Rattle.fields.specs.Lists.{all, bytesAt}
 use Rattle.fields.specs.Buffer.{bytes}
+use Rattle.fields.specs.declared.Fault.{Fault}
+use Rattle.fields.specs.declared.Flaw.the-variants.{Other}
 use Rattle.numbers.specs.declared.Number.the-variants.{Value}
 use Rattle.numbers.specs.Writing.{decimal, hex, little}
 use Rattle.numbers.specs.Reading.{readDecimal, readHex, readLittle}
@@ -23,23 +27,33 @@ use Rattle.crc.proofs.Augmented as readings
 use Rattle.packets.specs.declared.Header.{Header}
 use Rattle.packets.specs.declared.Resume.{Resume}
 use Rattle.packets.specs.declared.Block.{Block}
-use Rattle.packets.specs.declared.Packet.the-variants.{HD, RE, DT}
+use Rattle.packets.specs.declared.Packet.the-variants.{HD, RE, DT, Malformed}
 use Rattle.packets.specs.declared.spans.Span.the-variants.{Whole}
 use Rattle.packets.specs.Span.{span}
-use Rattle.packets.specs.Packet.{packetOf}
+use Rattle.packets.specs.Packet.{headerRead, packetOf, frontData}
 use Rattle.packets.specs.Content as packet
-use Rattle.packets.specs.Canonical.{inForm, isBlock}
+use Rattle.packets.specs.Canonical.{isGood, inForm, isBlock}
 use Rattle.packets.proofs.RoundTrip as packets
 use Rattle.packets.proofs.WriteBack as packets-back
 use Rattle.packets.proofs.Limits as packet-limits
+use Rattle.packets.proofs.Faults as header-tables
+use Rattle.packets.proofs.Offending as header-faults
 use Rattle.packet_stream.specs.Reader.{fresh}
 use Rattle.packet_stream.specs.Stream.{streamOf, handAll, Bytes}
 use Rattle.packet_stream.proofs.Chunks as chunks
-use Rattle.lines.specs.Frame.{frameOf}
+use Rattle.faults.specs.declared.Check.the-variants.{Faulty}
+use Rattle.faults.specs.Faults.{checkHeader, checkLine, checkOk, isSound}
+use Rattle.faults.specs.Search.{headerFaults, lineFaults}
+use Rattle.faults.specs.Place.{FirstOffending}
+use Rattle.lines.specs.declared.Frame.the-variants.{MalformedLine, MalformedOK}
+use Rattle.lines.specs.Frame.{lineMark, okMark, starts, frameOf}
+use Rattle.lines.specs.WellFormed.{isLine, isOk}
 use Rattle.lines.specs.Element as line
 use Rattle.lines.specs.Canonical.{canonical}
 use Rattle.lines.proofs.RoundTrip as lines
 use Rattle.lines.proofs.Limits as line-limits
+use Rattle.lines.proofs.Faults as line-tables
+use Rattle.lines.proofs.Offending as line-faults
 use Rattle.records.specs.declared.Record.{Record}
 use Rattle.records.specs.declared.RecordRead.the-variants.{Good}
 use Rattle.records.specs.Record.{recordOf}
@@ -48,9 +62,19 @@ use Rattle.records.proofs.RoundTrip as records
 use Rattle.listing.specs.Text.{heading, listing}
 use Rattle.listing.specs.Lister as lister
 use Rattle.listing.proofs.Listing as listings
+use Rattle.calls.specs.declared.Outcome.{Outcome}
+use Rattle.calls.specs.declared.Outcome.the-variants.{Malformed as MalformedEnd}
+use Rattle.calls.specs.Texts.{formatText}
 use Rattle.calls.specs.Checks.{checkOf}
 use Rattle.calls.specs.Numbers.{statusNumber}
 use Rattle.calls.proofs.Order as order
+use Rattle.yapp.specs.declared.ReceiverState.the-variants.{RH, CW, Ended}
+use Rattle.yapp.specs.Steps as yapp
+use Rattle.yapp.proofs.Carried as yapp-carried
+use Rattle.bin.specs.declared.SenderState.the-variants.{Wait}
+use Rattle.bin.specs.declared.ReceiverState.the-variants.{Waiting}
+use Rattle.bin.specs.Steps as bin
+use Rattle.bin.proofs.Carried as bin-carried
 use Rattle.transfers.specs.World.{World, first, Safe}
 use Rattle.transfers.specs.Demand.{Session, after, FairIn, FairAll, CalmIn, Ends, Completes, ComesToEndIn, ServesIn}
 use Rattle.transfers.proofs.Demand as demand
@@ -166,6 +190,63 @@ line-lengths = line-limits.lengths
 -- what is read keeps to the limits
 pub line-within : (b : List ℕ) → line-limits.Within (line.contentOf b (frameOf b))
 line-within = line-limits.limits
+
+-- ---- WHERE A HEADER, A LINE OR AN OK IS WRONG (crates/faults, packets, lines, yapp, bin): request 2026-02. FirstOffending says what the request
+-- asks of a place
+
+-- the place in a malformed header's data is that of the first offending byte, and at most 73
+pub header-place : (k : Bool) (b : List ℕ) (f : Fault) → packetOf k b ≡ Malformed f
+    → FirstOffending (λ (d : List ℕ). isGood (headerRead d)) (frontData k b) (f .offset) × (f .offset ≤ 73)
+header-place k b f e = (header-faults.place k b f e, header-faults.short k b f e)
+
+-- number and place are those of the fault that counts: each looked for by itself, a part where the one before it is closed; the earliest place, then
+-- the lower number
+pub header-least : (k : Bool) (b : List ℕ) (f : Fault) → packetOf k b ≡ Malformed f → headerFaults (frontData k b) ≡ Faulty f
+header-least = header-faults.least
+
+-- the table finds a fault exactly where the reading calls a header malformed
+pub header-agrees : (d : List ℕ) → isGood (headerRead d) ≡ isSound (checkHeader d)
+header-agrees = header-tables.agrees-header
+
+-- the same of a line, whose places count in the frame
+pub line-place : (b : List ℕ) (f : Fault) → frameOf b ≡ MalformedLine f
+    → FirstOffending (λ (s : List ℕ). isLine (frameOf s)) b (f .offset) × (f .offset ≤ 97)
+line-place b f e = (line-faults.place-line b f e, line-faults.short-line b f e)
+
+pub line-least : (b : List ℕ) (f : Fault) → frameOf b ≡ MalformedLine f → lineFaults 5 (drop 5 b) ≡ Faulty f
+line-least = line-faults.least
+
+pub line-agrees : (b : List ℕ) → starts lineMark b ≡ true → isLine (frameOf b) ≡ isSound (checkLine b)
+line-agrees = line-tables.agrees-line
+
+-- and of an OK, whose number is always 7
+pub ok-place : (b : List ℕ) (f : Fault) → frameOf b ≡ MalformedOK f
+    → FirstOffending (λ (s : List ℕ). isOk (frameOf s)) b (f .offset) × (f .offset ≤ 85)
+ok-place b f e = (line-faults.place-ok b f e, line-faults.short-ok b f e)
+
+pub ok-other : (b : List ℕ) (f : Fault) → frameOf b ≡ MalformedOK f → f .flaw ≡ Other
+ok-other = line-faults.other
+
+pub ok-agrees : (b : List ℕ) → starts okMark b ≡ true → isOk (frameOf b) ≡ isSound (checkOk b)
+ok-agrees = line-tables.agrees-ok
+
+-- every end carries it to its outcome: a receiver of YAPP that awaits a header enters CW with it and leaves CW with nothing else, a receiver of #BIN#
+-- that awaits a line and a sender that awaits an OK end with it
+pub header-carried : (t : yapp.ReceiverSettings) (r : yapp.ReceiverNow) (a : List ℕ) (k : Bool) (b : List ℕ) (f : Fault) → r .state ≡ RH false
+    → packetOf k b ≡ Malformed f → yapp.receiverTakes t r a (packet.contentOf b (packetOf k b)) ≡ yapp.fails r a (MalformedEnd f)
+header-carried = yapp-carried.carried
+
+pub header-kept : (t : yapp.ReceiverSettings) (r : yapp.ReceiverNow) (a : List ℕ) (o : Outcome) → r .state ≡ CW o → (c : packet.Content)
+    → (yapp.receiverTakes t r a c .state ≡ CW o) ⊎ (yapp.receiverTakes t r a c .state ≡ Ended o)
+header-kept = yapp-carried.stays
+
+pub line-carried : (t : bin.ReceiverSettings) (v : Option Saved) (a : List ℕ) (x : ℕ) (b : List ℕ) (f : Fault) → frameOf (x ∷ b) ≡ MalformedLine f
+    → bin.receiverTakes t Waiting v a (x ∷ b) ≡ bin.refuses v a (MalformedEnd f) formatText
+line-carried = bin-carried.carried-line
+
+pub ok-carried : (s : bin.SenderSettings) (file : List ℕ) (x : ℕ) (b : List ℕ) (f : Fault) → frameOf (x ∷ b) ≡ MalformedOK f
+    → bin.senderTakes s file Wait (x ∷ b) ≡ bin.stops (MalformedEnd f)
+ok-carried = bin-carried.carried-ok
 
 -- ---- THE SAVED RECORD, both ways (crates/records)
 

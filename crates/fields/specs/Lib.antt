@@ -3,3 +3,4 @@ pub mod Lists
 pub mod Name
 pub mod Buffer
 pub mod Stamps
+pub mod Faults

@@ -29,6 +29,30 @@ pub enum Stamp {
     Absent,
 }
 
+// What is wrong with a header, a line or an OK. (Change request 2026-02.)
+pub enum Flaw {
+    // 71: no closing byte behind the name.
+    NameOpen,
+    // 72: the name is empty or too long.
+    NameLength,
+    // 73: a forbidden byte in the name.
+    NameByte,
+    // 74: no digits.
+    NoDigits,
+    // 75: too many digits.
+    ManyDigits,
+    // 76: no closing bytes behind the size.
+    SizeOpen,
+    // 7: a line's CRC, stamp or other marks, and everything in an OK.
+    Other,
+}
+
+// What is wrong, and where: the offset of the first offending byte, in the data of a header or in the frame; the length where they simply end.
+pub struct Fault {
+    pub flaw: Flaw,
+    pub offset: usize,
+}
+
 // The limits of document 01.
 pub struct Limits {}
 

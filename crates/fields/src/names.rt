@@ -4,7 +4,8 @@ ghost use mathlib.Core.Path.{_≡_};
 ghost use Rattle.fields.specs.Lists.{same as sameOf};
 ghost use Rattle.fields.specs.Name.{isNameByte, isName};
 
-fn is_name_byte(c: u8) -> bool
+// Whether a file name may have this byte.
+pub fn is_name_byte(c: u8) -> bool
     ensures { λ r. ⌜ r ≡ isNameByte c ⌝ }
 {
     if c < 33 {

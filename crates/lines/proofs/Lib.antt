@@ -3,3 +3,5 @@ mod Fields
 mod Reading
 pub mod RoundTrip
 pub mod Limits
+pub mod Faults
+pub mod Offending

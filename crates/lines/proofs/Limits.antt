@@ -28,11 +28,11 @@ use Rattle.lines.proofs.RoundTrip.{Made, fromBasic, fromExtended, fromO
 abbrev pub Within : Element → Type 0
 Within (basic size) = size ≤ 99999999
 Within (extended size crc stamp resumable name) = (size ≤ 99999999) × (crc ≤ 65535) × (stamp < 2 ^ 32) × (isName name ≡ true)
-Within malformedLine = Unit {0}
+Within (malformedLine f) = Unit {0}
 Within ok = Unit {0}
 Within (okName name) = isName name ≡ true
 Within (okKept name kept crc) = (isName name ≡ true) × (kept ≤ 99999999) × (crc ≤ 65535)
-Within malformedOK = Unit {0}
+Within (malformedOK f) = Unit {0}
 Within (no text) = Unit {0}
 Within stop = Unit {0}
 Within (display text) = Unit {0}
@@ -48,11 +48,11 @@ limits b = go (frameOf b) (seen b)
     go _ (isExtended size crc stamp name n k v r e a c d i) =
         let w = hex-below v stamp d in
         (size-below n size a, crc-below k crc c, omega arith, rw (e, line-name size crc stamp name n k v r a c d i) i)
-    go _ isMalformedLine = tt
+    go _ (isMalformedLine s) = tt
     go _ (isOK e) = tt
     go _ (isNamed name e i) = rw (e, name-place name) i
     go _ (isKept name digits crc n k e i a c) = (rw (e, kept-name name digits crc n k i a c) i, size-below n digits a, crc-below k crc c)
-    go _ isMalformedOK = tt
+    go _ (isMalformedOK s) = tt
     go _ (isNO s) = tt
     go _ (isStop e) = tt
     go _ (isDisplay s) = tt

@@ -16,9 +16,12 @@ use Rattle.fields.specs.Name.{isNameByte, isName}
 use Rattle.numbers.specs.Reading.{radix, hexDigit, readSize, readCrc, readHex}
 use Rattle.fields.proofs.Lists.{either, same-eq, free-snoc, cut-before, name-length, name-free}
 use Rattle.numbers.proofs.Reading.{value-without, decimal-without, crc-form, hex-form}
+use Rattle.faults.specs.Faults.{lineFault, okFault}
+use Rattle.lines.specs.declared.FrameRead.{FrameRead}
+use Rattle.lines.specs.declared.FrameRead.the-variants.{Good, Bad}
 use Rattle.lines.specs.declared.Frame.{Frame}
 use Rattle.lines.specs.declared.Frame.the-variants.{Basic, Extended, MalformedLine, OK, OKName, OKKept, MalformedOK, NO, Stop, Display, Other}
-use Rattle.lines.specs.Frame.{lineMark, okMark, noMark, stopFrame, displayMark, starts, ends, body, hasHash, behind, marked, lineName, hasResume, stampDigits, stampBy, lineStamp, crcBy, lineCrc, sizeBy, basicBy, lineRead, lineOf, okCrcBy, okKeptBy, okKept, okName, okRead, okOf, textOf, shownOf, frameOf}
+use Rattle.lines.specs.Frame.{lineMark, okMark, noMark, stopFrame, displayMark, starts, ends, body, hasHash, behind, marked, lineName, hasResume, stampDigits, stampBy, lineStamp, crcBy, lineCrc, sizeBy, basicBy, lineRead, lineOf, okCrcBy, okKeptBy, okKept, okName, okRead, okOf, lineBy, okBy, lineFrame, okFrame, textOf, shownOf, frameOf}
 use Rattle.numbers.specs.Canonical.{plain, capitals}
 use Rattle.lines.specs.Canonical.{plainLine, plainKept}
 use Rattle.lines.specs.Element.{resumeMark, basicBytes, lineBytes, okBytes, keptBytes, noBytes}
@@ -27,11 +30,11 @@ use Rattle.lines.proofs.Fields.{ends-back, body-back, framed, last-plac
 -- ---- What each mark leads to
 
 module _ (s : List ℕ) where
-  line-first : frameOf (lineMark ++ s) ≡ lineOf (lineMark ++ s)
+  line-first : frameOf (lineMark ++ s) ≡ lineFrame (lineMark ++ s)
   unfolding frameOf starts same
   line-first = refl
 
-  ok-first : frameOf (okMark ++ s) ≡ okOf (okMark ++ s)
+  ok-first : frameOf (okMark ++ s) ≡ okFrame (okMark ++ s)
   unfolding frameOf starts same
   ok-first = refl
 
@@ -40,11 +43,13 @@ module _ (s : List ℕ) where
   no-first = refl
 
 -- between a mark and the final `\r`
-line-between : (t : List ℕ) → frameOf (lineMark ++ (t ++ (13 ∷ []))) ≡ lineRead (length (lineMark ++ (t ++ (13 ∷ []))) - 1) t
+line-between : (t : List ℕ)
+    → frameOf (lineMark ++ (t ++ (13 ∷ [])))
+    ≡ lineBy (lineMark ++ (t ++ (13 ∷ []))) (lineRead (length (lineMark ++ (t ++ (13 ∷ []))) - 1) t)
 unfolding lineOf
 line-between t = line-first (t ++ (13 ∷ [])) ∙ rw (ends-back (lineMark ++ t), body-back lineMark t 5 refl)
 
-ok-between : (t : List ℕ) → frameOf (okMark ++ (t ++ (13 ∷ []))) ≡ okRead t
+ok-between : (t : List ℕ) → frameOf (okMark ++ (t ++ (13 ∷ []))) ≡ okBy (okMark ++ (t ++ (13 ∷ []))) (okRead t)
 unfolding okOf
 ok-between t = ok-first (t ++ (13 ∷ [])) ∙ rw (ends-back (okMark ++ t), body-back okMark t 4 refl)
 
@@ -129,7 +134,7 @@ module _ (size crc stamp name : List ℕ) (n k v : ℕ) (r : Bool) (hs : readSiz
     name = record { start = length (lineBytes size crc stamp r name) - 1 - length name; len = length name };
   })
   unfolding lineName field
-  line-reads = rw (line-is size crc stamp r name) (line-between (lineFields size crc field name) ∙ size-reads _ ∙ rw hn)
+  line-reads = rw (line-is size crc stamp r name) (line-between (lineFields size crc field name) ∙ ap (lineBy _) (size-reads _) ∙ rw hn)
 
   pub line-body : body 5 (lineBytes size crc stamp r name) ≡ lineFields size crc (stamp ++ resumeMark r) name
   line-body = rw (line-is size crc stamp r name) (body-back lineMark (lineFields size crc (stamp ++ resumeMark r) name) 5 refl)
@@ -239,12 +244,12 @@ pub data Seen (b : List ℕ) : Frame → Type 0 where
   isExtended : (size crc stamp name : List ℕ) (n k v : ℕ) (r : Bool) → b ≡ lineBytes size crc stamp r name
       → readSize size ≡ Value n → readCrc crc ≡ Value k → readHex stamp ≡ Value v → isName name ≡ true
       → Seen b (Extended (record { size = n; crc = k; stamp = v; resumable = r; name = record { start = length b - 1 - length name; len = length name } }))
-  isMalformedLine : Seen b MalformedLine
+  isMalformedLine : starts lineMark b ≡ true → Seen b (MalformedLine (lineFault b))
   isOK : b ≡ okBytes [] → Seen b OK
   isNamed : (name : List ℕ) → b ≡ okBytes name → isName name ≡ true → Seen b (OKName (record { start = 4; len = length name }))
   isKept : (name digits crc : List ℕ) (n k : ℕ) → b ≡ keptBytes name digits crc → isName name ≡ true → readSize digits ≡ Value n → readCrc crc ≡ Value k
       → Seen b (OKKept (record { name = record { start = 4; len = length name }; kept = n; crc = k }))
-  isMalformedOK : Seen b MalformedOK
+  isMalformedOK : starts okMark b ≡ true → Seen b (MalformedOK (okFault b))
   isNO : starts noMark b ≡ true → Seen b (NO (textOf b))
   isStop : b ≡ stopFrame → Seen b Stop
   isDisplay : starts displayMark b ≡ true → Seen b (Display (shownOf b))
@@ -256,90 +261,103 @@ line-whole size crc field name =
     ap (λ (f : List ℕ). lineMark ++ (lineFields size crc f name ++ (13 ∷ []))) (field-split field)
     ∙ sym (line-is size crc (stampDigits field) (hasResume field) name)
 
+-- what is known where something well-formed stands behind the mark
+abbrev ReadAs : List ℕ → FrameRead → Type 0
+ReadAs b (Good f) = Seen b f
+ReadAs b Bad = Unit {0}
+
 module _ (b : List ℕ) where
   name-seen : (size crc field t : List ℕ) (n k v : ℕ) → b ≡ lineMark ++ (lineFields size crc field t ++ (13 ∷ []))
       → readSize size ≡ Value n → readCrc crc ≡ Value k → readHex (stampDigits field) ≡ Value v
-      → Seen b (lineName (length b - 1) n k v (hasResume field) t)
+      → ReadAs b (lineName (length b - 1) n k v (hasResume field) t)
   unfolding lineName
   name-seen size crc field t n k v e hs hc hv =
-      either (Seen b) (isName t) _ _
+      either (ReadAs b) (isName t) _ _
       (λ h. isExtended size crc (stampDigits field) t n k v (hasResume field) (e ∙ line-whole size crc field t) hs hc hv h)
-      (λ h. isMalformedLine)
+      (λ h. tt)
 
   stamp-seen : (size crc t : List ℕ) (n k : ℕ) → b ≡ lineMark ++ ((size ++ (35 ∷ (124 ∷ (crc ++ (35 ∷ t))))) ++ (13 ∷ []))
-      → readSize size ≡ Value n → readCrc crc ≡ Value k → Seen b (lineStamp (length b - 1) n k t)
+      → readSize size ≡ Value n → readCrc crc ≡ Value k → ReadAs b (lineStamp (length b - 1) n k t)
   unfolding lineStamp
   stamp-seen size crc t n k e hs hc =
-      either (Seen b) (marked 36 t) _ _ (λ h. go (readHex (stampDigits (upTo 35 (drop 1 t)))) refl h) (λ h. isMalformedLine)
+      either (ReadAs b) (marked 36 t) _ _ (λ h. go (readHex (stampDigits (upTo 35 (drop 1 t)))) refl h) (λ h. tt)
     where
       go : (x : Number) → readHex (stampDigits (upTo 35 (drop 1 t))) ≡ x → marked 36 t ≡ true
-          → Seen b (stampBy (length b - 1) n k x (hasResume (upTo 35 (drop 1 t))) (behind (drop 1 t)))
+          → ReadAs b (stampBy (length b - 1) n k x (hasResume (upTo 35 (drop 1 t))) (behind (drop 1 t)))
       go (Value v) q h =
           name-seen size crc (upTo 35 (drop 1 t)) (behind (drop 1 t)) n k v
           (e ∙ ap (λ (u : List ℕ). lineMark ++ ((size ++ (35 ∷ (124 ∷ (crc ++ (35 ∷ u))))) ++ (13 ∷ []))) (marked-split 36 t h)) hs hc q
-      go Malformed q h = isMalformedLine
+      go Malformed q h = tt
 
-  crc-seen : (size t : List ℕ) (n : ℕ) → b ≡ lineMark ++ ((size ++ (35 ∷ t)) ++ (13 ∷ [])) → readSize size ≡ Value n → Seen b (lineCrc (length b - 1) n t)
+  crc-seen : (size t : List ℕ) (n : ℕ) → b ≡ lineMark ++ ((size ++ (35 ∷ t)) ++ (13 ∷ [])) → readSize size ≡ Value n → ReadAs b (lineCrc (length b - 1) n t)
   unfolding lineCrc
   crc-seen size t n e hs =
-      either (Seen b) (marked 124 t) _ _ (λ h. go (readCrc (upTo 35 (drop 1 t))) refl h) (λ h. isMalformedLine)
+      either (ReadAs b) (marked 124 t) _ _ (λ h. go (readCrc (upTo 35 (drop 1 t))) refl h) (λ h. tt)
     where
-      go : (x : Number) → readCrc (upTo 35 (drop 1 t)) ≡ x → marked 124 t ≡ true → Seen b (crcBy (length b - 1) n x (behind (drop 1 t)))
+      go : (x : Number) → readCrc (upTo 35 (drop 1 t)) ≡ x → marked 124 t ≡ true → ReadAs b (crcBy (length b - 1) n x (behind (drop 1 t)))
       go (Value k) q h =
           stamp-seen size (upTo 35 (drop 1 t)) (behind (drop 1 t)) n k
           (e ∙ ap (λ (u : List ℕ). lineMark ++ ((size ++ (35 ∷ u)) ++ (13 ∷ []))) (marked-split 124 t h)) hs q
-      go Malformed q h = isMalformedLine
+      go Malformed q h = tt
 
-  line-seen : (t : List ℕ) → b ≡ lineMark ++ (t ++ (13 ∷ [])) → Seen b (lineRead (length b - 1) t)
+  line-seen : (t : List ℕ) → b ≡ lineMark ++ (t ++ (13 ∷ [])) → ReadAs b (lineRead (length b - 1) t)
   unfolding lineRead basicBytes
-  line-seen t e = either (Seen b) (hasHash t) _ _ (λ h. long (readSize (upTo 35 t)) refl h) (λ h. short (readSize t) refl)
+  line-seen t e = either (ReadAs b) (hasHash t) _ _ (λ h. long (readSize (upTo 35 t)) refl h) (λ h. short (readSize t) refl)
     where
-      long : (x : Number) → readSize (upTo 35 t) ≡ x → hasHash t ≡ true → Seen b (sizeBy (length b - 1) x (behind t))
+      long : (x : Number) → readSize (upTo 35 t) ≡ x → hasHash t ≡ true → ReadAs b (sizeBy (length b - 1) x (behind t))
       long (Value n) q h =
           crc-seen (upTo 35 t) (behind t) n (e ∙ ap (λ (u : List ℕ). lineMark ++ (u ++ (13 ∷ []))) (hash-split t h)) q
-      long Malformed q h = isMalformedLine
+      long Malformed q h = tt
 
-      short : (x : Number) → readSize t ≡ x → Seen b (basicBy x)
+      short : (x : Number) → readSize t ≡ x → ReadAs b (basicBy x)
       short (Value n) q = isBasic t n e q
-      short Malformed q = isMalformedLine
+      short Malformed q = tt
 
-  kept-seen : (name t : List ℕ) → b ≡ okMark ++ ((name ++ (35 ∷ t)) ++ (13 ∷ [])) → isName name ≡ true → Seen b (okKept (length name) t)
+  kept-seen : (name t : List ℕ) → b ≡ okMark ++ ((name ++ (35 ∷ t)) ++ (13 ∷ [])) → isName name ≡ true → ReadAs b (okKept (length name) t)
   unfolding okKept
   kept-seen name t e hn =
-      either (Seen b) (marked 36 t) _ _ (λ h. go (readSize (upTo 35 (drop 1 t))) refl h) (λ h. isMalformedOK)
+      either (ReadAs b) (marked 36 t) _ _ (λ h. go (readSize (upTo 35 (drop 1 t))) refl h) (λ h. tt)
     where
-      last : (n : ℕ) → readSize (upTo 35 (drop 1 t)) ≡ Value n → marked 36 t ≡ true → (y : Number) → readCrc (behind (drop 1 t)) ≡ y → Seen b (okCrcBy (length name) n y)
+      last : (n : ℕ) → readSize (upTo 35 (drop 1 t)) ≡ Value n → marked 36 t ≡ true → (y : Number) → readCrc (behind (drop 1 t)) ≡ y → ReadAs b (okCrcBy (length name) n y)
       last n q h (Value k) p =
           isKept name (upTo 35 (drop 1 t)) (behind (drop 1 t)) n k
           (e ∙ ap (λ (u : List ℕ). okMark ++ ((name ++ (35 ∷ u)) ++ (13 ∷ []))) (marked-split 36 t h) ∙ sym (kept-is name (upTo 35 (drop 1 t)) (behind (drop 1 t)))) hn q p
-      last n q h Malformed p = isMalformedOK
+      last n q h Malformed p = tt
 
-      go : (x : Number) → readSize (upTo 35 (drop 1 t)) ≡ x → marked 36 t ≡ true → Seen b (okKeptBy (length name) x (behind (drop 1 t)))
+      go : (x : Number) → readSize (upTo 35 (drop 1 t)) ≡ x → marked 36 t ≡ true → ReadAs b (okKeptBy (length name) x (behind (drop 1 t)))
       go (Value n) q h = last n q h (readCrc (behind (drop 1 t))) refl
-      go Malformed q h = isMalformedOK
+      go Malformed q h = tt
 
   none-is : (t : List ℕ) → length t ≡ 0 → t ≡ []
   none-is [] h = refl
   none-is (c ∷ t) h = absurd (omega arith)
 
-  ok-seen : (t : List ℕ) → b ≡ okMark ++ (t ++ (13 ∷ [])) → Seen b (okRead t)
+  ok-seen : (t : List ℕ) → b ≡ okMark ++ (t ++ (13 ∷ [])) → ReadAs b (okRead t)
   unfolding okRead okName okBytes
   ok-seen t e =
-      either (Seen b) (hasHash t) _ _
-      (λ h. either (Seen b) (isName (upTo 35 t)) _ _
+      either (ReadAs b) (hasHash t) _ _
+      (λ h. either (ReadAs b) (isName (upTo 35 t)) _ _
       (λ i. kept-seen (upTo 35 t) (behind t) (e ∙ ap (λ (u : List ℕ). okMark ++ (u ++ (13 ∷ []))) (hash-split t h)) i)
-      (λ i. isMalformedOK))
-      (λ h. either (Seen b) (eqb (length t) 0) _ _
+      (λ i. tt))
+      (λ h. either (ReadAs b) (eqb (length t) 0) _ _
       (λ z. isOK (e ∙ ap (λ (u : List ℕ). okMark ++ (u ++ (13 ∷ []))) (none-is t (eqb-true (length t) 0 z))))
-      (λ z. either (Seen b) (isName t) _ _ (λ i. isNamed t e i) (λ i. isMalformedOK)))
+      (λ z. either (ReadAs b) (isName t) _ _ (λ i. isNamed t e i) (λ i. tt)))
+
+  line-by : starts lineMark b ≡ true → (x : FrameRead) → ReadAs b x → Seen b (lineBy b x)
+  line-by m (Good f) s = s
+  line-by m Bad s = isMalformedLine m
+
+  ok-by : starts okMark b ≡ true → (x : FrameRead) → ReadAs b x → Seen b (okBy b x)
+  ok-by m (Good f) s = s
+  ok-by m Bad s = isMalformedOK m
 
   pub seen : Seen b (frameOf b)
   unfolding frameOf lineOf okOf ends
   seen =
       either (Seen b) (starts lineMark b) _ _
-      (λ h. either (Seen b) (ends b) _ _ (λ e. line-seen (body 5 b) (framed lineMark b refl h e)) (λ e. isMalformedLine))
+      (λ h. line-by h (lineOf b) (either (ReadAs b) (ends b) _ _ (λ e. line-seen (body 5 b) (framed lineMark b refl h e)) (λ e. tt)))
       (λ h1. either (Seen b) (starts okMark b) _ _
-      (λ h. either (Seen b) (ends b) _ _ (λ e. ok-seen (body 4 b) (framed okMark b refl h e)) (λ e. isMalformedOK))
+      (λ h. ok-by h (okOf b) (either (ReadAs b) (ends b) _ _ (λ e. ok-seen (body 4 b) (framed okMark b refl h e)) (λ e. tt)))
       (λ h2. either (Seen b) (starts noMark b) _ _
       (λ h. isNO h)
       (λ h3. either (Seen b) (same stopFrame b) _ _

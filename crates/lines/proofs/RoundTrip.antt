@@ -50,7 +50,7 @@ made (extended n k v r name) bs h =
     let c = both (leb k 65535) _ (b .1) in
     let d = leb-true v 0xFFFFFFFF (c .1) in
     fromExtended n k v r name (leb-true n 99999999 (b .0)) (leb-true k 65535 (c .0)) (omega arith) (a .0) (sym (f .1))
-made malformedLine bs h = formless-not bs h
+made (malformedLine f) bs h = formless-not bs h
 made ok bs h = let e : bs ≡ okBytes [] = cc in fromOK e
 made (okName name) bs h = let f = form-is (isName name) _ bs h in fromNamed name (f .0) (sym (f .1))
 made (okKept name n k) bs h =
@@ -58,7 +58,7 @@ made (okKept name n k) bs h =
     let a = both (isName name) _ (f .0) in
     let b = both (leb n 99999999) _ (a .1) in
     fromKept name n k (a .0) (leb-true n 99999999 (b .0)) (leb-true k 65535 (b .1)) (sym (f .1))
-made malformedOK bs h = formless-not bs h
+made (malformedOK f) bs h = formless-not bs h
 made (no text) bs h = let f = form-is (leb (length text) 80) _ bs h in fromNO text (leb-true (length text) 80 (f .0)) (sym (f .1))
 made stop bs h = let e : bs ≡ stopFrame = cc in fromStop e
 made (display text) bs h = formless-not bs h
@@ -127,14 +127,14 @@ writes-back b h = go (frameOf b) (seen b) h
         let t = both (plain crc) _ (s .1) in
         let w = hex-below v stamp d in
         rw (e, line-name size crc stamp name n k v r a b d i, i, le-leb n 99999999 (size-below n size a), le-leb k 65535 (crc-below k crc b), le-leb v 0xFFFFFFFF (omega arith), size-back n size a (s .0), crc-back k crc b (t .0), hex-back v stamp d (t .1))
-    go _ isMalformedLine p = never p
+    go _ (isMalformedLine s) p = never p
     go _ (isOK e) p = ap bytes (sym e)
     go _ (isNamed name e i) p = rw (e, name-place name, i)
     go _ (isKept name digits crc n k e i a b) p =
         let q : plain digits && plain crc ≡ true = rw (e, kept-plain name digits crc n k i a b) at p in
         let s = both (plain digits) _ q in
         rw (e, kept-name name digits crc n k i a b, i, le-leb n 99999999 (size-below n digits a), le-leb k 65535 (crc-below k crc b), size-back n digits a (s .0), crc-back k crc b (s .1))
-    go _ isMalformedOK p = never p
+    go _ (isMalformedOK s) p = never p
     go _ (isNO s) p =
         let q = both (ends b) _ p in
         let e : b ≡ noBytes (body 4 b) = framed noMark b refl s (q .0) in

@@ -23,11 +23,11 @@ plainKept t = plain (upTo 35 (drop 1 (behind t))) && plain (behind (drop 1 (behi
 abbrev pub canonicalAs : List ℕ → Frame → Bool
 canonicalAs b (Basic size) = plain (body 5 b)
 canonicalAs b (Extended l) = plainLine (body 5 b)
-canonicalAs b MalformedLine = false
+canonicalAs b (MalformedLine f) = false
 canonicalAs b OK = true
 canonicalAs b (OKName p) = true
 canonicalAs b (OKKept k) = plainKept (body 4 b)
-canonicalAs b MalformedOK = false
+canonicalAs b (MalformedOK f) = false
 canonicalAs b (NO p) = ends b && leb (p .len) 80
 canonicalAs b Stop = true
 canonicalAs b (Display p) = false

@@ -5,6 +5,7 @@ use mathlib.Core.Bool.{Bool, _&&_}
 use lib.ListN.{length}
 use lib.Dec.{leb}
 use Rattle.fields.specs.Pick.{pick}
+use Rattle.fields.specs.declared.Fault.{Fault}
 use Rattle.fields.specs.Lists.{bytesAt}
 use Rattle.fields.specs.Name.{isName}
 use Rattle.numbers.specs.Writing.{decimal, hex}
@@ -18,11 +19,11 @@ use Rattle.lines.specs.Frame.{lineMark, okMark, noMark, stopFrame}
 pub data Element : Type 0 where
   basic : ℕ → Element
   extended : ℕ → ℕ → ℕ → Bool → List ℕ → Element
-  malformedLine : Element
+  malformedLine : Fault → Element
   ok : Element
   okName : List ℕ → Element
   okKept : List ℕ → ℕ → ℕ → Element
-  malformedOK : Element
+  malformedOK : Fault → Element
   no : List ℕ → Element
   stop : Element
   display : List ℕ → Element
@@ -32,11 +33,11 @@ pub data Element : Type 0 where
 unfoldable pub contentOf : List ℕ → Frame → Element
 contentOf s (Basic size) = basic size
 contentOf s (Extended l) = extended (l .size) (l .crc) (l .stamp) (l .resumable) (bytesAt s (l .name))
-contentOf s MalformedLine = malformedLine
+contentOf s (MalformedLine f) = malformedLine f
 contentOf s OK = ok
 contentOf s (OKName p) = okName (bytesAt s p)
 contentOf s (OKKept k) = okKept (bytesAt s (k .name)) (k .kept) (k .crc)
-contentOf s MalformedOK = malformedOK
+contentOf s (MalformedOK f) = malformedOK f
 contentOf s (NO p) = no (bytesAt s p)
 contentOf s Stop = stop
 contentOf s (Display p) = display (bytesAt s p)
@@ -92,11 +93,11 @@ noForm text = formIf (leb (length text) 80) (noBytes text)
 unfoldable pub formOf : Element → Form
 formOf (basic size) = basicForm size
 formOf (extended size crc stamp resumable name) = lineForm size crc stamp resumable name
-formOf malformedLine = formless
+formOf (malformedLine f) = formless
 formOf ok = bytes (okBytes [])
 formOf (okName name) = okNameForm name
 formOf (okKept name kept crc) = okKeptForm name kept crc
-formOf malformedOK = formless
+formOf (malformedOK f) = formless
 formOf (no text) = noForm text
 formOf stop = bytes stopFrame
 formOf (display text) = formless

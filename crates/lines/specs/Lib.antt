@@ -1,3 +1,4 @@
 pub mod Frame
 pub mod Element
 pub mod Canonical
+pub mod WellFormed

@@ -1,4 +1,5 @@
 // The elements of #BIN#: what a frame says, how it starts. Places count from the frame's first byte.
+use fields::Fault;
 use fields::Place;
 use fields::names;
 ghost use mathlib.Core.Path.{_≡_};
@@ -31,13 +32,13 @@ pub enum Frame {
     // A basic line: the size.
     Basic(u32),
     Extended(Line),
-    // It starts `#BIN#` and is no line.
-    MalformedLine,
+    // It starts `#BIN#` and is no line: what is wrong, and where in the frame.
+    MalformedLine(Fault),
     OK,
     OKName(Place),
     OKKept(Kept),
-    // It starts `#OK#` and is no OK.
-    MalformedOK,
+    // It starts `#OK#` and is no OK: where in the frame.
+    MalformedOK(Fault),
     // A refusal: the place of its text.
     NO(Place),
     // The stop frame.
@@ -45,6 +46,12 @@ pub enum Frame {
     // For display: the place of the text.
     Display(Place),
     Other,
+}
+
+// What stands behind `#BIN#` or `#OK#`, if it is well-formed.
+pub enum FrameRead {
+    Good(Frame),
+    Bad,
 }
 
 // Whether b starts with mark.

@@ -1,5 +1,6 @@
 // The elements of #BIN# read: lines, OKs, refusals, the stop frame and what is for display.
 use crate::Frame;
+use crate::FrameRead;
 use crate::Kept;
 use crate::Line;
 use crate::line_stamps;
@@ -12,7 +13,7 @@ ghost use Prim.Native.Nat.{_-_};
 ghost use lib.ListN.{drop};
 ghost use Rattle.fields.specs.Lists.{upTo};
 ghost use Rattle.numbers.specs.Reading.{readSize, readCrc};
-ghost use Rattle.lines.specs.Frame.{lineMark, okMark, noMark, starts as startsOf, ends as endsOf, body as bodyOf, hasHash, behind as behindOf, marked, lineName, lineStamp, lineCrc, basicBy, lineRead, lineOf, okCrcBy, okKept, okName, okRead, okOf, textOf, frameOf};
+ghost use Rattle.lines.specs.Frame.{lineMark, okMark, noMark, starts as startsOf, ends as endsOf, body as bodyOf, hasHash, behind as behindOf, marked, lineName, lineStamp, lineCrc, basicBy, lineRead, lineOf, okCrcBy, okKept, okName, okRead, okOf, lineFrame, okFrame, textOf, frameOf};
 
 // a - b, never under 0.
 fn less(a: usize, b: usize) -> usize
@@ -101,7 +102,7 @@ fn is_marked(t: &[u8], x: u8) -> bool
 }
 
 // The name of a line, to the final `\r`, which stands at index end.
-fn line_name(end: usize, size: u32, crc: u16, stamp: u32, resumable: bool, t: &[u8]) -> Frame
+fn line_name(end: usize, size: u32, crc: u16, stamp: u32, resumable: bool, t: &[u8]) -> FrameRead
     ensures { λ r. ⌜ r ≡ lineName end size crc stamp resumable (now (t .entry)) ⌝ }
 {
     if names::is_name(t) {
@@ -109,19 +110,19 @@ fn line_name(end: usize, size: u32, crc: u16, stamp: u32, resumable: bool, t: &[
             start: less(end, t.len()),
             len: t.len(),
         };
-        return Frame::Extended(Line {
+        return FrameRead::Good(Frame::Extended(Line {
             size,
             crc,
             stamp,
             resumable,
             name,
-        });
+        }));
     }
-    Frame::MalformedLine
+    FrameRead::Bad
 }
 
 // `$`, the stamp and perhaps `?`, `#`, the name.
-fn line_stamp(end: usize, size: u32, crc: u16, t: &[u8]) -> Frame
+fn line_stamp(end: usize, size: u32, crc: u16, t: &[u8]) -> FrameRead
     ensures { λ r. ⌜ r ≡ lineStamp end size crc (now (t .entry)) ⌝ }
 {
     if is_marked(t, b'$') {
@@ -129,44 +130,44 @@ fn line_stamp(end: usize, size: u32, crc: u16, t: &[u8]) -> Frame
         let s = before(u);
         let resumable = line_stamps::has_resume(s);
         let Number::Value(stamp) = digit_reader::read_hex(line_stamps::stamp_digits(s)) else {
-            return Frame::MalformedLine;
+            return FrameRead::Bad;
         };
         return line_name(end, size, crc, stamp, resumable, behind(u));
     }
-    Frame::MalformedLine
+    FrameRead::Bad
 }
 
 // `|`, the CRC, `#`, the rest.
-fn line_crc(end: usize, size: u32, t: &[u8]) -> Frame
+fn line_crc(end: usize, size: u32, t: &[u8]) -> FrameRead
     ensures { λ r. ⌜ r ≡ lineCrc end size (now (t .entry)) ⌝ }
 {
     if is_marked(t, b'|') {
         let u = rest(t, 1);
         let Number::Value(crc) = digit_reader::read_crc(before(u)) else {
-            return Frame::MalformedLine;
+            return FrameRead::Bad;
         };
         return line_stamp(end, size, crc as u16, behind(u));
     }
-    Frame::MalformedLine
+    FrameRead::Bad
 }
 
 // The size alone.
-fn basic_line(t: &[u8]) -> Frame
+fn basic_line(t: &[u8]) -> FrameRead
     ensures { λ r. ⌜ r ≡ basicBy (readSize (now (t .entry))) ⌝ }
 {
     let Number::Value(size) = digit_reader::read_size(t) else {
-        return Frame::MalformedLine;
+        return FrameRead::Bad;
     };
-    Frame::Basic(size)
+    FrameRead::Good(Frame::Basic(size))
 }
 
 // The size alone, or the size, `#`, the rest.
-fn line_read(end: usize, t: &[u8]) -> Frame
+fn line_read(end: usize, t: &[u8]) -> FrameRead
     ensures { λ r. ⌜ r ≡ lineRead end (now (t .entry)) ⌝ }
 {
     if has_hash(t) {
         let Number::Value(size) = digit_reader::read_size(before(t)) else {
-            return Frame::MalformedLine;
+            return FrameRead::Bad;
         };
         return line_crc(end, size, behind(t));
     }
@@ -174,63 +175,63 @@ fn line_read(end: usize, t: &[u8]) -> Frame
 }
 
 // A frame that starts `#BIN#`.
-fn line_of(b: &[u8]) -> Frame
+fn line_of(b: &[u8]) -> FrameRead
     ensures { λ r. ⌜ r ≡ lineOf (now (b .entry)) ⌝ }
 {
     if ends(b) {
         return line_read(less(b.len(), 1), body(b, 5));
     }
-    Frame::MalformedLine
+    FrameRead::Bad
 }
 
 // The CRC of the third OK, behind a name of n bytes and a kept count.
-fn ok_crc(n: usize, kept: u32, t: &[u8]) -> Frame
+fn ok_crc(n: usize, kept: u32, t: &[u8]) -> FrameRead
     ensures { λ r. ⌜ r ≡ okCrcBy n kept (readCrc (now (t .entry))) ⌝ }
 {
     let Number::Value(crc) = digit_reader::read_crc(t) else {
-        return Frame::MalformedOK;
+        return FrameRead::Bad;
     };
     let name = Place { start: 4, len: n };
-    Frame::OKKept(Kept {
+    FrameRead::Good(Frame::OKKept(Kept {
         name,
         kept,
         crc: crc as u16,
-    })
+    }))
 }
 
 // `$`, the kept count, `#`, the CRC.
-fn ok_kept(n: usize, t: &[u8]) -> Frame
+fn ok_kept(n: usize, t: &[u8]) -> FrameRead
     ensures { λ r. ⌜ r ≡ okKept n (now (t .entry)) ⌝ }
 {
     if is_marked(t, b'$') {
         let u = rest(t, 1);
         let Number::Value(kept) = digit_reader::read_size(before(u)) else {
-            return Frame::MalformedOK;
+            return FrameRead::Bad;
         };
         return ok_crc(n, kept, behind(u));
     }
-    Frame::MalformedOK
+    FrameRead::Bad
 }
 
 // Nothing, or a name.
-fn ok_name(t: &[u8]) -> Frame
+fn ok_name(t: &[u8]) -> FrameRead
     ensures { λ r. ⌜ r ≡ okName (now (t .entry)) ⌝ }
 {
     if t.len() == 0 {
-        return Frame::OK;
+        return FrameRead::Good(Frame::OK);
     }
     if names::is_name(t) {
         let name = Place {
             start: 4,
             len: t.len(),
         };
-        return Frame::OKName(name);
+        return FrameRead::Good(Frame::OKName(name));
     }
-    Frame::MalformedOK
+    FrameRead::Bad
 }
 
 // Nothing, a name, or a name, `#` and more.
-fn ok_read(t: &[u8]) -> Frame
+fn ok_read(t: &[u8]) -> FrameRead
     ensures { λ r. ⌜ r ≡ okRead (now (t .entry)) ⌝ }
 {
     if has_hash(t) {
@@ -238,19 +239,39 @@ fn ok_read(t: &[u8]) -> Frame
         if names::is_name(name) {
             return ok_kept(name.len(), behind(t));
         }
-        return Frame::MalformedOK;
+        return FrameRead::Bad;
     }
     ok_name(t)
 }
 
 // A frame that starts `#OK#`.
-fn ok_of(b: &[u8]) -> Frame
+fn ok_of(b: &[u8]) -> FrameRead
     ensures { λ r. ⌜ r ≡ okOf (now (b .entry)) ⌝ }
 {
     if ends(b) {
         return ok_read(body(b, 4));
     }
-    Frame::MalformedOK
+    FrameRead::Bad
+}
+
+// What a frame says that starts `#BIN#`.
+fn line_frame(b: &[u8]) -> Frame
+    ensures { λ r. ⌜ r ≡ lineFrame (now (b .entry)) ⌝ }
+{
+    let FrameRead::Good(frame) = line_of(b) else {
+        return Frame::MalformedLine(faults::line_fault(b));
+    };
+    frame
+}
+
+// What a frame says that starts `#OK#`.
+fn ok_frame(b: &[u8]) -> Frame
+    ensures { λ r. ⌜ r ≡ okFrame (now (b .entry)) ⌝ }
+{
+    let FrameRead::Good(frame) = ok_of(b) else {
+        return Frame::MalformedOK(faults::ok_fault(b));
+    };
+    frame
 }
 
 // Where the text of a frame stands that starts `#NO#`.
@@ -274,10 +295,10 @@ pub fn frame_of(b: &[u8]) -> Frame
     ensures { λ r. ⌜ r ≡ frameOf (now (b .entry)) ⌝ }
 {
     if is_line(b) {
-        return line_of(b);
+        return line_frame(b);
     }
     if is_ok(b) {
-        return ok_of(b);
+        return ok_frame(b);
     }
     if is_no(b) {
         let text = text_of(b);

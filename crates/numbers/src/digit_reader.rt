@@ -24,7 +24,8 @@ fn decimal_digit(c: u8) -> u32
     }
 }
 
-fn hex_digit(c: u8) -> u32
+// The value of a hex digit of either case; 16 for any other byte.
+pub fn hex_digit(c: u8) -> u32
     ensures { λ r. ⌜ r ≡ hexDigit c ⌝ }
 {
     match c {

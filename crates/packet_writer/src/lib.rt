@@ -76,7 +76,7 @@ pub fn write(packet: Packet, source: &[u8], checked: bool, reply: &mut [u8]) -> 
         Packet::SI => write_two(reply, 5, 1),
         Packet::RI(p) => texts::write_ri(reply, fields::bytes_at(source, p)),
         Packet::HD(h) => write_header(reply, source, h),
-        Packet::Malformed => write_none(reply),
+        Packet::Malformed(_) => write_none(reply),
         Packet::DT(b) => write_block(reply, source, b, checked),
         Packet::EF => write_two(reply, 3, 1),
         Packet::ET => write_two(reply, 4, 1),

@@ -8,3 +8,5 @@ pub mod KindLaws
 pub mod RoundTrip
 pub mod WriteBack
 pub mod Limits
+pub mod Faults
+pub mod Offending

@@ -43,7 +43,7 @@ Keeps b RT = Unit {0}
 Keeps b SI = Unit {0}
 Keeps b (RI p) = Unit {0}
 Keeps b (HD h) = (isName (bytesAt b (h .name)) ≡ true) × (h .size ≤ 99999999) × (stampFits (h .stamp) ≡ true)
-Keeps b Malformed = Unit {0}
+Keeps b (Malformed f) = Unit {0}
 Keeps b (DT d) = getD b 1 0 < 256 → (1 ≤ d .place .len) × (d .place .len ≤ 256) × (length (bytesAt b (d .place)) ≡ d .place .len)
 Keeps b EF = Unit {0}
 Keeps b ET = Unit {0}
@@ -61,7 +61,7 @@ module _ (k : Bool) (x : ℕ) (t r : List ℕ) where
   unfolding wholeOf Keeps counted
   header-keeps = rw (data-behind k 1 x t refl) (go (headerRead t) refl)
     where
-      go : (v : HeaderRead) → headerRead t ≡ v → Keeps ((1 ∷ x ∷ t) ++ r) (headerBy v)
+      go : (v : HeaderRead) → headerRead t ≡ v → Keeps ((1 ∷ x ∷ t) ++ r) (headerBy t v)
       go Bad e = tt
       go (Good h) e =
           let p = header-parts t h e in

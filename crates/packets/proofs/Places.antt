@@ -23,7 +23,7 @@ use Rattle.packets.specs.declared.ResumeRead.the-variants.{Asked, Nothin
 use Rattle.packets.specs.declared.Packet.{Packet}
 use Rattle.packets.specs.declared.Packet.the-variants.{RR, RF, AF, AT, CA, RT, SI, RI}
 use Rattle.packets.specs.Span.{placeAt, sizeOf}
-use Rattle.packets.specs.Packet.{sizedBy, headerSize, headerRead, headerBy, resumeRead, nakBy, acknowledgeOf, placeOf, dataOf, wholeOf, packetIn}
+use Rattle.packets.specs.Packet.{sizedBy, headerSize, headerRead, headerBy, headerPacket, resumeRead, nakBy, acknowledgeOf, placeOf, dataOf, wholeOf, packetIn}
 use Rattle.packets.specs.Content.{contentOf}
 use Rattle.fields.proofs.Lists.{upTo-le}
 use Rattle.packets.proofs.Bounds.{either, lead-least}
@@ -43,23 +43,23 @@ place-same m p h q t le = part-same q t (p .start) (p .len) (omega arith)
 
 -- ---- a header's name
 
-sized-inside : (m n : ℕ) (v : Number) (o : List ℕ) → n ≤ m - 2 → Inside m (headerBy (sizedBy n v o))
+sized-inside : (d : List ℕ) (m n : ℕ) (v : Number) (o : List ℕ) → n ≤ m - 2 → Inside m (headerBy d (sizedBy n v o))
 unfolding contentOf
-sized-inside m n (Value v) o h q t le = rw (place-same m (record { start = 2; len = n }) h q t le)
-sized-inside m n NoNumber o h q t le = refl
+sized-inside d m n (Value v) o h q t le = rw (place-same m (record { start = 2; len = n }) h q t le)
+sized-inside d m n NoNumber o h q t le = refl
 
-size-inside : (m n : ℕ) (t : List ℕ) → n ≤ m - 2 → Inside m (headerBy (headerSize n t))
+size-inside : (d : List ℕ) (m n : ℕ) (t : List ℕ) → n ≤ m - 2 → Inside m (headerBy d (headerSize n t))
 unfolding contentOf headerSize
-size-inside m n t h =
-    either (λ r. Inside m (headerBy r)) (ltb (length (upTo 0 t)) (length t)) _ Bad
-    (sized-inside m n (readSize (upTo 0 t)) (drop (length (upTo 0 t) + 1) t) h) (λ q u le. refl)
+size-inside d m n t h =
+    either (λ r. Inside m (headerBy d r)) (ltb (length (upTo 0 t)) (length t)) _ Bad
+    (sized-inside d m n (readSize (upTo 0 t)) (drop (length (upTo 0 t) + 1) t) h) (λ q u le. refl)
 
-header-inside : (m : ℕ) (d : List ℕ) → length d ≤ m - 2 → Inside m (headerBy (headerRead d))
+header-inside : (m : ℕ) (d : List ℕ) → length d ≤ m - 2 → Inside m (headerPacket d)
 unfolding contentOf headerRead
 header-inside m d h =
-    either (λ r. Inside m (headerBy r)) (ltb (length (upTo 0 d)) (length d)) _ Bad
-    (either (λ r. Inside m (headerBy r)) (isName (upTo 0 d)) _ Bad
-    (size-inside m (length (upTo 0 d)) (drop (length (upTo 0 d) + 1) d) (omega (arith, upTo-le 0 d))) (λ q t le. refl)) (λ q t le. refl)
+    either (λ r. Inside m (headerBy d r)) (ltb (length (upTo 0 d)) (length d)) _ Bad
+    (either (λ r. Inside m (headerBy d r)) (isName (upTo 0 d)) _ Bad
+    (size-inside d m (length (upTo 0 d)) (drop (length (upTo 0 d) + 1) d) (omega (arith, upTo-le 0 d))) (λ q t le. refl)) (λ q t le. refl)
 
 -- ---- the others
 

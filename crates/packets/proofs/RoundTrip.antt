@@ -271,7 +271,7 @@ reads k (hd name size stamp) bs e =
     let g = both _ _ (f .0) in
     let h = both _ _ (g .1) in
     rw (← f .1) (header-reads k name size stamp (g .0) (leb-true _ _ (h .0)) (h .1))
-reads k malformed bs e = formless-not bs e
+reads k (malformed f) bs e = formless-not bs e
 reads k (dt d true) bs e =
     let f = form-is _ _ bs e in
     let g = both _ _ (f .0) in
@@ -322,7 +322,7 @@ plain-alike k m (nr s) h = refl
 plain-alike k m (cn s) h = refl
 plain-alike k m (tx s) h = refl
 plain-alike k m (hd n v s) h = refl
-plain-alike k m malformed h = refl
+plain-alike k m (malformed f) h = refl
 plain-alike k m (dt d s) h = let z : _≡_ {A = ℕ} 0 1 = cc in absurd (omega arith)
 plain-alike k m (re p c) h = refl
 plain-alike k m (dropped n) h = refl

@@ -9,6 +9,7 @@ use Rattle.fields.specs.Lists.{bytesAt}
 use Rattle.fields.specs.Name.{isName}
 use Rattle.numbers.specs.Writing.{decimal, hex}
 use Rattle.fields.specs.Buffer.{Form, formless, bytes, formIf}
+use Rattle.fields.specs.declared.Fault.{Fault}
 use Rattle.fields.specs.declared.Stamp.{Stamp}
 use Rattle.fields.specs.declared.Stamp.the-variants.{Present, Absent}
 pub use Rattle.fields.specs.Stamps.{stampFits}
@@ -23,7 +24,7 @@ pub data Content : Type 0 where
   rr rf af at ca rt si ef et : Content
   ri nr cn tx : List ℕ → Content
   hd : List ℕ → ℕ → Stamp → Content
-  malformed : Content
+  malformed : Fault → Content
   dt : List ℕ → Bool → Content
   re : ℕ → Bool → Content
   dropped : ℕ → Content
@@ -40,7 +41,7 @@ contentOf s RT = rt
 contentOf s SI = si
 contentOf s (RI p) = ri (bytesAt s p)
 contentOf s (HD h) = hd (bytesAt s (h .name)) (h .size) (h .stamp)
-contentOf s Malformed = malformed
+contentOf s (Malformed f) = malformed f
 contentOf s (DT b) = dt (bytesAt s (b .place)) (b .sound)
 contentOf s EF = ef
 contentOf s ET = et
@@ -109,7 +110,7 @@ formOf checked rt = bytes (6 ∷ 6 ∷ [])
 formOf checked si = bytes (5 ∷ 1 ∷ [])
 formOf checked (ri s) = requestForm s
 formOf checked (hd name size stamp) = headerForm name size stamp
-formOf checked malformed = formless
+formOf checked (malformed f) = formless
 formOf checked (dt d true) = blockForm checked d
 formOf checked (dt d false) = formless
 formOf checked ef = bytes (3 ∷ 1 ∷ [])

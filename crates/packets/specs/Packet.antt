@@ -10,6 +10,7 @@ use Rattle.fields.specs.Pick.{pick}
 use Rattle.fields.specs.Lists.{bytesAt, upTo}
 use Rattle.fields.specs.Name.{isName}
 use Rattle.numbers.specs.Reading.{readSize, readHex}
+use Rattle.faults.specs.Faults.{headerFault}
 use Rattle.packets.specs.Span.{span, placeAt}
 use Rattle.fields.specs.declared.Place.{Place}
 use Rattle.packets.specs.declared.spans.Span.{Span}
@@ -48,9 +49,13 @@ headerRead d =
     pick (ltb (length (upTo 0 d)) (length d))
     (pick (isName (upTo 0 d)) (headerSize (length (upTo 0 d)) (drop (length (upTo 0 d) + 1) d)) Bad) Bad
 
-abbrev pub headerBy : HeaderRead → Packet
-headerBy (Good h) = HD h
-headerBy Bad = Malformed
+abbrev pub headerBy : List ℕ → HeaderRead → Packet
+headerBy d (Good h) = HD h
+headerBy d Bad = Malformed (headerFault d)
+
+-- the packet that a header with these data is; what is malformed carries what is wrong, and where (change request 2026-02)
+abbrev pub headerPacket : List ℕ → Packet
+headerPacket d = headerBy d (headerRead d)
 
 -- ---- NR or RE: 15 len data
 
@@ -111,7 +116,7 @@ dataOf checked b = bytesAt b (placeOf checked b)
 -- what b says, which is one whole packet
 unfoldable pub wholeOf : Bool → List ℕ → Packet
 wholeOf checked b =
-    pick (eqb (getD b 0 0) 1) (headerBy (headerRead (dataOf checked b)))
+    pick (eqb (getD b 0 0) 1) (headerPacket (dataOf checked b))
     (pick (eqb (getD b 0 0) 2) (DT (record { place = placeOf checked b; sound = isSound checked (placeOf checked b) b }))
     (pick (eqb (getD b 0 0) 3) EF
     (pick (eqb (getD b 0 0) 4) ET

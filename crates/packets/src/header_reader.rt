@@ -8,7 +8,7 @@ use fields::names;
 use numbers::Number;
 use numbers::digit_reader;
 ghost use mathlib.Core.Path.{_≡_};
-ghost use Rattle.packets.specs.Packet.{stampOf, headerSize, headerRead, headerBy};
+ghost use Rattle.packets.specs.Packet.{stampOf, headerSize, headerRead, headerPacket};
 
 // A header's option: exactly eight hex digits and a zero are a stamp.
 fn stamp_of(option: &[u8]) -> Stamp
@@ -59,10 +59,10 @@ fn header_read(d: &[u8]) -> HeaderRead
 
 // The packet that a header is.
 pub fn header_packet(d: &[u8]) -> Packet
-    ensures { λ r. ⌜ r ≡ headerBy (headerRead (now (d .entry))) ⌝ }
+    ensures { λ r. ⌜ r ≡ headerPacket (now (d .entry)) ⌝ }
 {
     let HeaderRead::Good(h) = header_read(d) else {
-        return Packet::Malformed;
+        return Packet::Malformed(faults::header_fault(d));
     };
     Packet::HD(h)
 }

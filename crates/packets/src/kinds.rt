@@ -27,7 +27,7 @@ pub fn kind_of(packet: Packet) -> usize
         Packet::RE(_) => 13,
         Packet::CN(_) => 14,
         Packet::TX(_) => 15,
-        Packet::Malformed => 16,
+        Packet::Malformed(_) => 16,
         Packet::Dropped(_) => 17,
         Packet::Open => 18,
     }

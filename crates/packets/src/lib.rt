@@ -1,4 +1,5 @@
 // YAPP packets: what their bytes say; where the data stand, and their checksum.
+use fields::Fault;
 use fields::Place;
 use fields::Stamp;
 ghost use mathlib.Core.Path.{_≡_};
@@ -43,8 +44,8 @@ pub enum Packet {
     SI,
     RI(Place),
     HD(Header),
-    // A malformed header.
-    Malformed,
+    // A malformed header: what is wrong, and where in its data.
+    Malformed(Fault),
     DT(Block),
     EF,
     ET,

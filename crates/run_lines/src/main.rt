@@ -1,4 +1,5 @@
 // Reads frames and prints what each says: document 01's examples, malformed lines and OKs, and every beginning of a line.
+use calls::Outcome;
 use fields::Place;
 use lines::Frame;
 use lines::Kept;
@@ -8,6 +9,7 @@ use numbers::hex_writer;
 use script::printing::put;
 use script::printing::put_bytes;
 use script::printing::put_number;
+use script::printing::put_outcome;
 use script::reading::before;
 use script::reading::behind;
 
@@ -43,11 +45,11 @@ fn put_frame(b: &[u8]) {
     match line_reader::frame_of(b) {
         Frame::Basic(size) => put_number(b"basic size ", size as usize),
         Frame::Extended(l) => put_line(b, l),
-        Frame::MalformedLine => put(b"malformed line"),
+        Frame::MalformedLine(fault) => put_outcome(b"malformed line ", Outcome::Malformed(fault)),
         Frame::OK => put(b"OK"),
         Frame::OKName(p) => put_name(b"OK name ", b, p),
         Frame::OKKept(k) => put_kept(b, k),
-        Frame::MalformedOK => put(b"malformed OK"),
+        Frame::MalformedOK(fault) => put_outcome(b"malformed OK ", Outcome::Malformed(fault)),
         Frame::NO(p) => put_name(b"NO text ", b, p),
         Frame::Stop => put(b"stop"),
         Frame::Display(p) => put_name(b"display ", b, p),
@@ -116,6 +118,20 @@ fn lines_malformed() {
           #BIN#3#|6822#$5A214800?#abc.txt#\r~\
           #BIN#3#|6822#$5A214800?#abc.txt\rx~\
           #BIN#3#|6822#$5A214800?#aaaaaaaaaabbbbbbbbbbccccccccccddddddddddeeeeeeeeeeffffffffffggggg\r~\
+          #BIN#12#\r~\
+          #BIN#12#~\
+          #BIN#12#|\r~\
+          #BIN#12#|65536#$~\
+          #BIN#12#|99999#$~\
+          #BIN#12#|655350~\
+          #BIN#12#|1#$5A21480#a\r~\
+          #BIN#12#|1#$5A214800!#a\r~\
+          #BIN#12#|1#$5A214800??#a\r~\
+          #BIN#12#|1#$5A214800?#\r~\
+          #BIN#12#|1#$5A214800?#~\
+          #BIN#12#|1#$5A214800?#a#b\r~\
+          #BIN#12#|1#$5A214800?#a\r\r~\
+          #BIN#12345678x\r~\
           ",
     );
 }
@@ -137,6 +153,11 @@ fn replies() {
           #OK#abc.txt#$2#65536\r~\
           #OK#abc.txt#$2#16706#\r~\
           #OK#\r\r~\
+          #OK##$2#1\r~\
+          #OK#a#$2#65536\r~\
+          #OK#\rx~\
+          #OK#a#$123456789#1\r~\
+          #OK#a#$2#1~\
           #NO#room\r~\
           #NO#room~\
           #NO#\r~\

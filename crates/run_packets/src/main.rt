@@ -1,6 +1,8 @@
 // Writes packets, with and without a form, and hands back the data of packets at the front of a capture. One line a case: the first 16 bytes
 // that were written, or 20 or 22, and how far the reply buffer is no longer what it was; or the data.
 use calls::outcomes;
+use fields::Fault;
+use fields::Flaw;
 use fields::Place;
 use fields::Stamp;
 use fields::Written;
@@ -135,7 +137,9 @@ fn others() {
     write_dt(b"DT of 257 bytes", 257, true);
     write_dt(b"DT of no data", 0, true);
     write_dt(b"DT whose checksum disagreed", 3, false);
-    write(b"a malformed header", Packet::Malformed, b"");
+    let flaw = Flaw::NameOpen;
+    let malformed = Packet::Malformed(Fault { flaw, offset: 0 });
+    write(b"a malformed header", malformed, b"");
     write(b"a dropped byte", Packet::Dropped(1), b"");
     write(b"an unfinished packet", Packet::Open, b"");
 }

@@ -1,4 +1,5 @@
 // What the programs print. No contract can say which bytes a call of C's writes, so these promise no more than that they return.
+use calls::Offset;
 use calls::Outcome;
 use calls::RecordAnswer;
 use calls::Status;
@@ -125,11 +126,14 @@ pub fn put_touched(label: &[u8], buf: &[u8])
     put_change(label, change_of(fields::part(&lent, 0, buf.len()), buf));
 }
 
-// An end's outcome, by its number.
+// An outcome by its number, and its place where it has one.
 pub fn put_outcome(label: &[u8], outcome: Outcome)
     ensures { λ r. ⌜ r ≡ tt ⌝ }
 {
     put_number(label, outcomes::outcome_number(outcome) as usize);
+    if let Offset::At(place) = outcomes::outcome_offset(outcome) {
+        put_number(b" at ", place);
+    }
 }
 
 // Nothing where the call was taken.

@@ -1,4 +1,4 @@
--- The numbers by which the transcript prints states: the place of a state's word times 32, and the outcome's number where it has one; those
+-- The numbers by which the transcript prints states: the place of a state's word times 128, and the outcome's number where it has one; those
 -- of lines.
 use Prim.Native.Nat.{ℕ, _+_}
 use mathlib.Core.Bool.{Bool}
@@ -20,45 +20,45 @@ use Rattle.bin.specs.declared.ReceiverState.the-variants.{Waiting, Basic, Exten
 
 abbrev pub senderNumber : SenderState → ℕ
 senderNumber (S begun timeouts) = 0
-senderNumber SH = 32
-senderNumber (SD at) = 64
-senderNumber SE = 96
-senderNumber ST = 128
-senderNumber (CW o) = 448 + outcomeNumber o
-senderNumber (Ended o) = 480 + outcomeNumber o
+senderNumber SH = 128
+senderNumber (SD at) = 256
+senderNumber SE = 384
+senderNumber ST = 512
+senderNumber (CW o) = 1792 + outcomeNumber o
+senderNumber (Ended o) = 1920 + outcomeNumber o
 
 abbrev pub receiverNumber : ReceiverState → ℕ
-receiverNumber R = 160
-receiverNumber (RH whole) = 192
-receiverNumber RD = 224
-receiverNumber (AbortedCW o) = 448 + outcomeNumber o
-receiverNumber (ReceiverEnded o) = 480 + outcomeNumber o
+receiverNumber R = 640
+receiverNumber (RH whole) = 768
+receiverNumber RD = 896
+receiverNumber (AbortedCW o) = 1792 + outcomeNumber o
+receiverNumber (ReceiverEnded o) = 1920 + outcomeNumber o
 
 abbrev pub binSenderNumber : BinSenderState → ℕ
-binSenderNumber Start = 256
-binSenderNumber Wait = 288
-binSenderNumber (Send at) = 320
-binSenderNumber (BinSenderEnded o) = 480 + outcomeNumber o
+binSenderNumber Start = 1024
+binSenderNumber Wait = 1152
+binSenderNumber (Send at) = 1280
+binSenderNumber (BinSenderEnded o) = 1920 + outcomeNumber o
 
 abbrev pub binReceiverNumber : BinReceiverState → ℕ
-binReceiverNumber Waiting = 352
-binReceiverNumber (Basic size kept) = 384
-binReceiverNumber (Extended crc) = 416
-binReceiverNumber (BinReceiverEnded o) = 480 + outcomeNumber o
+binReceiverNumber Waiting = 1408
+binReceiverNumber (Basic size kept) = 1536
+binReceiverNumber (Extended crc) = 1664
+binReceiverNumber (BinReceiverEnded o) = 1920 + outcomeNumber o
 
 -- the states from the word `ended` on
 abbrev pub isEnd : ℕ → Bool
-isEnd n = leb 480 n
+isEnd n = leb 1920 n
 
 -- the place of a line's word
 abbrev pub lineNumber : Frame → ℕ
 lineNumber (BasicLine size) = 19
 lineNumber (ExtendedLine line) = 19
-lineNumber MalformedLine = 20
+lineNumber (MalformedLine fault) = 20
 lineNumber OK = 21
 lineNumber (OKName name) = 22
 lineNumber (OKKept kept) = 23
-lineNumber MalformedOK = 24
+lineNumber (MalformedOK fault) = 24
 lineNumber (NO text) = 25
 lineNumber Stop = 26
 lineNumber (Display text) = 27

@@ -24,7 +24,7 @@ ghost use Rattle.transfer.specs.Writes.{Stays};
 ghost use Rattle.transfer.specs.Numbers.{senderNumber, receiverNumber, binSenderNumber, binReceiverNumber, isEnd, lineNumber, frameNumber};
 
 // An end that ended with success, as the four functions below number it.
-pub const SUCCESS: usize = 480;
+pub const SUCCESS: usize = 1920;
 
 // The two ends.
 pub const SENDER: usize = 0;
@@ -32,14 +32,26 @@ pub const SENDER: usize = 0;
 pub const RECEIVER: usize = 1;
 
 // A #BIN# sender in the midst of the file.
-pub const SENDING: usize = 320;
+pub const SENDING: usize = 1280;
 
-// An outcome's number and its words; 18, 19, 20 and 22 are no outcomes.
+// An outcome's number and its words; 18, 19, 20, 22 and 24 to 70 are no outcomes.
 fn print_outcome(number: usize, failed: &mut bool)
     ensures { λ r. ⌜ Stays (now (failed .entry)) (now (failed .exit)) ⌝ }
 {
     put_number(b"|", 0, number, failed);
     put(b" ", failed);
+    if 71 <= number {
+        return put_word(
+            b"no closing byte behind the name|\
+              name empty or too long|\
+              forbidden byte in the name|\
+              no digits|\
+              too many digits|\
+              no closing bytes behind the size|",
+            number - 71,
+            failed,
+        );
+    }
     put_word(
         b"success|\
           record unreadable|\
@@ -48,7 +60,7 @@ fn print_outcome(number: usize, failed: &mut bool)
           file length outside the limits|\
           block outside the limits|\
           packet unexpected or unreadable|\
-          header, line or OK malformed|\
+          line or OK malformed|\
           file larger than the area|\
           record without resume|\
           record of another file|\
@@ -66,17 +78,17 @@ fn print_outcome(number: usize, failed: &mut bool)
     );
 }
 
-// A state's number is the place of its word times 32, and the outcome's number where it has one.
+// A state's number is the place of its word times 128, and the outcome's number where it has one.
 fn print_state(number: usize, failed: &mut bool)
     ensures { λ r. ⌜ Stays (now (failed .entry)) (now (failed .exit)) ⌝ }
 {
     put_word(
         b"S|SH|SD|SE|ST|R|RH|RD|start|wait|send|waiting|basic|extended|CW, |ended, |",
-        number / 32,
+        number / 128,
         failed,
     );
-    if 448 <= number {
-        print_outcome(number % 32, failed);
+    if 1792 <= number {
+        print_outcome(number % 128, failed);
     }
 }
 
@@ -85,12 +97,12 @@ pub fn sender_number(state: SenderState) -> usize
 {
     match state {
         SenderState::S { .. } => 0,
-        SenderState::SH => 32,
-        SenderState::SD { .. } => 64,
-        SenderState::SE => 96,
-        SenderState::ST => 128,
-        SenderState::CW { outcome } => 448 + outcomes::outcome_number(outcome) as usize,
-        SenderState::Ended { outcome } => 480 + outcomes::outcome_number(outcome) as usize,
+        SenderState::SH => 128,
+        SenderState::SD { .. } => 256,
+        SenderState::SE => 384,
+        SenderState::ST => 512,
+        SenderState::CW { outcome } => 1792 + outcomes::outcome_number(outcome) as usize,
+        SenderState::Ended { outcome } => 1920 + outcomes::outcome_number(outcome) as usize,
     }
 }
 
@@ -98,11 +110,11 @@ pub fn receiver_number(state: ReceiverState) -> usize
     ensures { λ r. ⌜ r ≡ receiverNumber state ⌝ }
 {
     match state {
-        ReceiverState::R => 160,
-        ReceiverState::RH { whole: _ } => 192,
-        ReceiverState::RD => 224,
-        ReceiverState::CW { outcome } => 448 + outcomes::outcome_number(outcome) as usize,
-        ReceiverState::Ended { outcome } => 480 + outcomes::outcome_number(outcome) as usize,
+        ReceiverState::R => 640,
+        ReceiverState::RH { whole: _ } => 768,
+        ReceiverState::RD => 896,
+        ReceiverState::CW { outcome } => 1792 + outcomes::outcome_number(outcome) as usize,
+        ReceiverState::Ended { outcome } => 1920 + outcomes::outcome_number(outcome) as usize,
     }
 }
 
@@ -110,10 +122,10 @@ pub fn bin_sender_number(state: BinSenderState) -> usize
     ensures { λ r. ⌜ r ≡ binSenderNumber state ⌝ }
 {
     match state {
-        BinSenderState::Start => 256,
-        BinSenderState::Wait => 288,
-        BinSenderState::Send { at: _ } => 320,
-        BinSenderState::Ended { outcome } => 480 + outcomes::outcome_number(outcome) as usize,
+        BinSenderState::Start => 1024,
+        BinSenderState::Wait => 1152,
+        BinSenderState::Send { at: _ } => 1280,
+        BinSenderState::Ended { outcome } => 1920 + outcomes::outcome_number(outcome) as usize,
     }
 }
 
@@ -121,10 +133,10 @@ pub fn bin_receiver_number(state: BinReceiverState) -> usize
     ensures { λ r. ⌜ r ≡ binReceiverNumber state ⌝ }
 {
     match state {
-        BinReceiverState::Waiting => 352,
-        BinReceiverState::Basic { .. } => 384,
-        BinReceiverState::Extended { crc: _ } => 416,
-        BinReceiverState::Ended { outcome } => 480 + outcomes::outcome_number(outcome) as usize,
+        BinReceiverState::Waiting => 1408,
+        BinReceiverState::Basic { .. } => 1536,
+        BinReceiverState::Extended { crc: _ } => 1664,
+        BinReceiverState::Ended { outcome } => 1920 + outcomes::outcome_number(outcome) as usize,
     }
 }
 
@@ -132,14 +144,14 @@ pub fn bin_receiver_number(state: BinReceiverState) -> usize
 pub fn is_end(number: usize) -> bool
     ensures { λ r. ⌜ r ≡ isEnd number ⌝ }
 {
-    480 <= number
+    1920 <= number
 }
 
 // An end's step from one state to another.
 pub fn moved(who: usize, before: usize, after: usize, failed: &mut bool)
     ensures { λ r. ⌜ Stays (now (failed .entry)) (now (failed .exit)) ⌝ }
 {
-    if before / 32 == after / 32 {
+    if before / 128 == after / 128 {
         return;
     }
     let words: &[u8] = b"    sender |    receiver | to |\n|";
@@ -243,11 +255,11 @@ fn line_number(frame: Frame) -> usize
     match frame {
         Frame::Basic(_) => 19,
         Frame::Extended(_) => 19,
-        Frame::MalformedLine => 20,
+        Frame::MalformedLine(_) => 20,
         Frame::OK => 21,
         Frame::OKName(_) => 22,
         Frame::OKKept(_) => 23,
-        Frame::MalformedOK => 24,
+        Frame::MalformedOK(_) => 24,
         Frame::NO(_) => 25,
         Frame::Stop => 26,
         Frame::Display(_) => 27,

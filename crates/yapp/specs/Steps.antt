@@ -11,7 +11,7 @@ use Rattle.fields.specs.Buffer.{appended}
 use Rattle.fields.specs.declared.Stamp.{Stamp}
 use Rattle.packets.specs.Content.{Content, rr, rf, af, at, ca, rt, si, ef, et, nr, cn, hd, dt, re, formOf}
 use Rattle.packets.specs.Kind.{kindOf}
-use Rattle.packets.specs.Data.{onHeader, onBlock, onResume}
+use Rattle.packets.specs.Data.{onHeader, onBlock, onResume, faultOf}
 use Rattle.records.specs.Saved.{Saved}
 use Rattle.calls.specs.declared.Outcome.{Outcome}
 use Rattle.calls.specs.declared.Outcome.the-variants.{Success, Unexpected, Malformed, NoRoom, HaveFile, Differs, CheckFailed, PastSize, Short, Refused, Cancelled, NotOurs, TimedOut, SecondFile, Stopped}
@@ -235,7 +235,7 @@ receiverDoes t r a endCW c = goes r a (receiverAfterCW (r .state)) []
 receiverDoes t r a answers c = goes r a (r .state) (ca ∷ [])
 receiverDoes t r a ready c = goes r a (RH false) (rr ∷ [])
 receiverDoes t r a trailer c = goes r a (REnded Success) (at ∷ [])
-receiverDoes t r a judge c = onHeader c (judges t r a) (fails r a Malformed)
+receiverDoes t r a judge c = onHeader c (judges t r a) (fails r a (Malformed (faultOf c)))
 receiverDoes t r a second c = refuses r a SecondFile oneText
 receiverDoes t r a store c = onBlock c (stores r a) (goes r a (r .state) [])
 receiverDoes t r a eof c = endsFile r a

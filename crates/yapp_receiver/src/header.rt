@@ -7,6 +7,8 @@ use calls::Entry;
 use calls::Keeping;
 use calls::Outcome;
 use calls::saving;
+use fields::Fault;
+use fields::Flaw;
 use fields::Stamp;
 use packets::Header;
 use packets::Packet;
@@ -20,7 +22,7 @@ ghost use Rattle.fields.specs.Lists.{bytesAt};
 ghost use Rattle.fields.specs.Stamps.{isPresent};
 ghost use Rattle.calls.specs.Saving.{savedBy};
 ghost use Rattle.packets.specs.Content.{Content, contentOf};
-ghost use Rattle.packets.specs.Data.{onHeader};
+ghost use Rattle.packets.specs.Data.{onHeader, faultOf};
 ghost use Rattle.yapp.specs.Steps.{ReceiverNow, accepts, fails, judgeRecord, judges};
 ghost use Rattle.yapp_receiver.specs.Receiver.{settingsBy, nowBy};
 ghost use Rattle.yapp_receiver.specs.Step.{contentsOf, reached, reachedBy};
@@ -102,12 +104,25 @@ fn resume_file(
     step::refuse(core, checked, name, Outcome::HaveFile, Out::Have)
 }
 
-// A malformed header is 7, a size over the area is 8.
+// What is wrong with a malformed header.
+fn fault_of(packet: Packet) -> Fault
+    ensures { λ r. ⌜ ((s : List ℕ) → r ≡ faultOf (contentOf s packet)) ⌝ }
+{
+    let Packet::Malformed(fault) = packet else {
+        return Fault {
+            flaw: Flaw::Other,
+            offset: 0,
+        };
+    };
+    fault
+}
+
+// A malformed header is 71 to 76, a size over the area is 8.
 pub fn judge(core: ReceiverCore, checked: bool, name: &[u8], packet: Packet, pending: &[u8]) -> Step
-    ensures { λ r. ⌜ ((a : List ℕ) → reached (now (name .entry)) (onHeader (contentOf (now (pending .entry)) packet) (judges (settingsBy core) (nowBy core checked (now (name .entry))) a) (fails (nowBy core checked (now (name .entry))) a (Outcome.Malformed))) ≡ reachedBy (now (pending .entry)) (now (name .entry)) r a) ⌝ }
+    ensures { λ r. ⌜ ((a : List ℕ) → reached (now (name .entry)) (onHeader (contentOf (now (pending .entry)) packet) (judges (settingsBy core) (nowBy core checked (now (name .entry))) a) (fails (nowBy core checked (now (name .entry))) a (Outcome.Malformed (faultOf (contentOf (now (pending .entry)) packet))))) ≡ reachedBy (now (pending .entry)) (now (name .entry)) r a) ⌝ }
 {
     let Packet::HD(header) = packet else {
-        return step::fail(core, checked, name, Outcome::Malformed);
+        return step::fail(core, checked, name, Outcome::Malformed(fault_of(packet)));
     };
     if core.room < header.size as usize {
         return step::refuse(core, checked, name, Outcome::NoRoom, Out::Room);

@@ -82,11 +82,11 @@ module _ (t : ReceiverSettings) (a : List ℕ) where
     unfolding receiverHears contentOf
     ignored (Basic size) h = absurd (miss lineless 0 tt h)
     ignored (Extended l) h = absurd (miss lineless 1 tt h)
-    ignored MalformedLine h = absurd (miss lineless 2 tt h)
+    ignored (MalformedLine w) h = absurd (miss lineless 2 tt h)
     ignored OK h = refl
     ignored (OKName p) h = refl
     ignored (OKKept p) h = refl
-    ignored MalformedOK h = refl
+    ignored (MalformedOK w) h = refl
     ignored (NO p) h = refl
     ignored Stop h = refl
     ignored (Display p) h = refl

@@ -35,11 +35,11 @@ module _ (m : Sender) (file : List ℕ) where
     unfolding senderHears contentOf
     hears-first (Basic n) k = absurd (miss (3 ∷ 4 ∷ []) 0 tt k)
     hears-first (Extended l) k = absurd (miss (3 ∷ 4 ∷ []) 1 tt k)
-    hears-first MalformedLine k = absurd (miss (3 ∷ 4 ∷ []) 2 tt k)
+    hears-first (MalformedLine w) k = absurd (miss (3 ∷ 4 ∷ []) 2 tt k)
     hears-first OK k = refl
     hears-first (OKName p) k = refl
     hears-first (OKKept x) k = absurd (miss (3 ∷ 4 ∷ []) 5 tt k)
-    hears-first MalformedOK k = absurd (miss (3 ∷ 4 ∷ []) 6 tt k)
+    hears-first (MalformedOK w) k = absurd (miss (3 ∷ 4 ∷ []) 6 tt k)
     hears-first (NO p) k = absurd (miss (3 ∷ 4 ∷ []) 7 tt k)
     hears-first StopFrame k = absurd (miss (3 ∷ 4 ∷ []) 8 tt k)
     hears-first (Display p) k = absurd (miss (3 ∷ 4 ∷ []) 9 tt k)
@@ -49,11 +49,11 @@ module _ (m : Sender) (file : List ℕ) where
     unfolding senderHears contentOf
     hears-none (Basic n) k = refl
     hears-none (Extended l) k = refl
-    hears-none MalformedLine k = refl
+    hears-none (MalformedLine w) k = refl
     hears-none OK k = absurd (miss (0 ∷ 1 ∷ 2 ∷ 9 ∷ 10 ∷ []) 3 tt k)
     hears-none (OKName p) k = absurd (miss (0 ∷ 1 ∷ 2 ∷ 9 ∷ 10 ∷ []) 4 tt k)
     hears-none (OKKept x) k = absurd (miss (0 ∷ 1 ∷ 2 ∷ 9 ∷ 10 ∷ []) 5 tt k)
-    hears-none MalformedOK k = absurd (miss (0 ∷ 1 ∷ 2 ∷ 9 ∷ 10 ∷ []) 6 tt k)
+    hears-none (MalformedOK w) k = absurd (miss (0 ∷ 1 ∷ 2 ∷ 9 ∷ 10 ∷ []) 6 tt k)
     hears-none (NO p) k = absurd (miss (0 ∷ 1 ∷ 2 ∷ 9 ∷ 10 ∷ []) 7 tt k)
     hears-none StopFrame k = absurd (miss (0 ∷ 1 ∷ 2 ∷ 9 ∷ 10 ∷ []) 8 tt k)
     hears-none (Display p) k = refl

@@ -13,9 +13,11 @@ use Rattle.fields.specs.declared.Place.{Place}
 use Rattle.fields.specs.Lists.{upTo, same}
 use Rattle.fields.specs.Name.{isName}
 use Rattle.numbers.specs.Reading.{readSize, readCrc, readHex}
+use Rattle.lines.specs.declared.FrameRead.{FrameRead}
+use Rattle.lines.specs.declared.FrameRead.the-variants.{Good, Bad}
 use Rattle.lines.specs.declared.Frame.{Frame}
-use Rattle.lines.specs.declared.Frame.the-variants.{Basic, Extended, MalformedLine, OK, OKName, OKKept, MalformedOK, NO, Stop, Display, Other}
-use Rattle.lines.specs.Frame.{lineMark, okMark, noMark, stopFrame, displayMark, starts, ends, body, hasHash, behind, marked, lineName, hasResume, stampDigits, lineStamp, lineCrc, basicBy, lineRead, lineOf, okCrcBy, okKept, okName, okRead, okOf, textOf, frameOf}
+use Rattle.lines.specs.declared.Frame.the-variants.{Basic, Extended, OK, OKName, OKKept, NO, Stop, Display, Other}
+use Rattle.lines.specs.Frame.{lineMark, okMark, noMark, stopFrame, displayMark, starts, ends, body, hasHash, behind, marked, lineName, hasResume, stampDigits, lineStamp, lineCrc, basicBy, lineRead, lineOf, okCrcBy, okKept, okName, okRead, okOf, lineFrame, okFrame, textOf, frameOf}
 
 -- ---- Fields
 
@@ -41,17 +43,17 @@ module _ (x : ℕ) (t : List ℕ) {b : ℕ} (e : b ≡ getD t 0 0) where
 
 module _ (end size crc stamp : ℕ) (resumable : Bool) (t : List ℕ) {m : Bool} (e : m ≡ isName t) where
   pub name-is : {k : ℕ} → m ≡ true → k ≡ end - length t
-      → Extended (record { size = size; crc = crc; stamp = stamp; resumable = resumable; name = record { start = k; len = length t } })
+      → Good (Extended (record { size = size; crc = crc; stamp = stamp; resumable = resumable; name = record { start = k; len = length t } }))
       ≡ lineName end size crc stamp resumable t
   unfolding lineName
   name-is q h = rw (sym e ∙ q, h)
 
-  pub name-not : m ≡ false → MalformedLine ≡ lineName end size crc stamp resumable t
+  pub name-not : m ≡ false → Bad ≡ lineName end size crc stamp resumable t
   unfolding lineName
   name-not q = rw (sym e ∙ q)
 
 module _ (end size crc : ℕ) (t : List ℕ) {m : Bool} (e : m ≡ marked 36 t) where
-  pub stamp-unmarked : m ≡ false → MalformedLine ≡ lineStamp end size crc t
+  pub stamp-unmarked : m ≡ false → Bad ≡ lineStamp end size crc t
   unfolding lineStamp
   stamp-unmarked q = rw (sym e ∙ q)
 
@@ -59,17 +61,17 @@ module _ (end size crc : ℕ) (t : List ℕ) {m : Bool} (e : m ≡ marked 36 t) 
     value : readHex (stampDigits (upTo 35 (drop 1 t))) ≡ n
     value = sym (read ∙ ap readHex (digits ∙ ap stampDigits (field ∙ ap (upTo 35) cut)))
 
-    pub stamp-bad : n ≡ Malformed → MalformedLine ≡ lineStamp end size crc t
+    pub stamp-bad : n ≡ Malformed → Bad ≡ lineStamp end size crc t
     unfolding lineStamp
     stamp-bad h = rw (sym e ∙ q, value, h)
 
-    pub stamp-on : {v : ℕ} {p : Bool} {x : List ℕ} {r : Frame} → n ≡ Value v → p ≡ hasResume s → x ≡ behind u → r ≡ lineName end size crc v p x
+    pub stamp-on : {v : ℕ} {p : Bool} {x : List ℕ} {r : FrameRead} → n ≡ Value v → p ≡ hasResume s → x ≡ behind u → r ≡ lineName end size crc v p x
         → r ≡ lineStamp end size crc t
     unfolding lineStamp
     stamp-on h f g w = w ∙ rw (f, field, g, cut, sym e ∙ q, value, h)
 
 module _ (end size : ℕ) (t : List ℕ) {m : Bool} (e : m ≡ marked 124 t) where
-  pub crc-unmarked : m ≡ false → MalformedLine ≡ lineCrc end size t
+  pub crc-unmarked : m ≡ false → Bad ≡ lineCrc end size t
   unfolding lineCrc
   crc-unmarked q = rw (sym e ∙ q)
 
@@ -77,23 +79,23 @@ module _ (end size : ℕ) (t : List ℕ) {m : Bool} (e : m ≡ marked 124 t) whe
     crc-value : readCrc (upTo 35 (drop 1 t)) ≡ n
     crc-value = sym (read ∙ ap readCrc (field ∙ ap (upTo 35) cut))
 
-    pub crc-bad : n ≡ Malformed → MalformedLine ≡ lineCrc end size t
+    pub crc-bad : n ≡ Malformed → Bad ≡ lineCrc end size t
     unfolding lineCrc
     crc-bad h = rw (sym e ∙ q, crc-value, h)
 
-    pub crc-on : {v : ℕ} {x : List ℕ} {r : Frame} → n ≡ Value v → x ≡ behind u → r ≡ lineStamp end size v x → r ≡ lineCrc end size t
+    pub crc-on : {v : ℕ} {x : List ℕ} {r : FrameRead} → n ≡ Value v → x ≡ behind u → r ≡ lineStamp end size v x → r ≡ lineCrc end size t
     unfolding lineCrc
     crc-on h g w = w ∙ rw (g, cut, sym e ∙ q, crc-value, h)
 
 module _ (t : List ℕ) {n : Number} (read : n ≡ readSize t) where
-  pub basic-bad : n ≡ Malformed → MalformedLine ≡ basicBy (readSize t)
+  pub basic-bad : n ≡ Malformed → Bad ≡ basicBy (readSize t)
   basic-bad h = rw (sym read ∙ h)
 
-  pub basic-is : {v : ℕ} → n ≡ Value v → Basic v ≡ basicBy (readSize t)
+  pub basic-is : {v : ℕ} → n ≡ Value v → Good (Basic v) ≡ basicBy (readSize t)
   basic-is h = rw (sym read ∙ h)
 
 module _ (end : ℕ) (t : List ℕ) {m : Bool} (e : m ≡ hasHash t) where
-  pub line-basic : {r : Frame} → m ≡ false → r ≡ basicBy (readSize t) → r ≡ lineRead end t
+  pub line-basic : {r : FrameRead} → m ≡ false → r ≡ basicBy (readSize t) → r ≡ lineRead end t
   unfolding lineRead
   line-basic q w = w ∙ rw (sym e ∙ q)
 
@@ -101,42 +103,42 @@ module _ (end : ℕ) (t : List ℕ) {m : Bool} (e : m ≡ hasHash t) where
     size-value : readSize (upTo 35 t) ≡ n
     size-value = sym (read ∙ ap readSize field)
 
-    pub size-bad : n ≡ Malformed → MalformedLine ≡ lineRead end t
+    pub size-bad : n ≡ Malformed → Bad ≡ lineRead end t
     unfolding lineRead
     size-bad h = rw (sym e ∙ q, size-value, h)
 
-    pub size-on : {v : ℕ} {x : List ℕ} {r : Frame} → n ≡ Value v → x ≡ behind t → r ≡ lineCrc end v x → r ≡ lineRead end t
+    pub size-on : {v : ℕ} {x : List ℕ} {r : FrameRead} → n ≡ Value v → x ≡ behind t → r ≡ lineCrc end v x → r ≡ lineRead end t
     unfolding lineRead
     size-on h g w = w ∙ rw (g, sym e ∙ q, size-value, h)
 
 module _ (b : List ℕ) {m : Bool} (e : m ≡ ends b) where
-  pub line-open : m ≡ false → MalformedLine ≡ lineOf b
+  pub line-open : m ≡ false → Bad ≡ lineOf b
   unfolding lineOf
   line-open q = rw (sym e ∙ q)
 
-  pub line-on : {k : ℕ} {t : List ℕ} {r : Frame} → m ≡ true → k ≡ length b - 1 → t ≡ body 5 b → r ≡ lineRead k t → r ≡ lineOf b
+  pub line-on : {k : ℕ} {t : List ℕ} {r : FrameRead} → m ≡ true → k ≡ length b - 1 → t ≡ body 5 b → r ≡ lineRead k t → r ≡ lineOf b
   unfolding lineOf
   line-on q h g w = w ∙ rw (h, g, sym e ∙ q)
 
   -- ---- OKs
 
-  pub ok-open : m ≡ false → MalformedOK ≡ okOf b
+  pub ok-open : m ≡ false → Bad ≡ okOf b
   unfolding okOf
   ok-open q = rw (sym e ∙ q)
 
-  pub ok-on : {t : List ℕ} {r : Frame} → m ≡ true → t ≡ body 4 b → r ≡ okRead t → r ≡ okOf b
+  pub ok-on : {t : List ℕ} {r : FrameRead} → m ≡ true → t ≡ body 4 b → r ≡ okRead t → r ≡ okOf b
   unfolding okOf
   ok-on q g w = w ∙ rw (g, sym e ∙ q)
 
 module _ (n kept : ℕ) (t : List ℕ) {x : Number} (read : x ≡ readCrc t) where
-  pub ok-crc-bad : x ≡ Malformed → MalformedOK ≡ okCrcBy n kept (readCrc t)
+  pub ok-crc-bad : x ≡ Malformed → Bad ≡ okCrcBy n kept (readCrc t)
   ok-crc-bad h = rw (sym read ∙ h)
 
-  pub ok-crc-is : {v : ℕ} → x ≡ Value v → OKKept (record { name = record { start = 4; len = n }; kept = kept; crc = v }) ≡ okCrcBy n kept (readCrc t)
+  pub ok-crc-is : {v : ℕ} → x ≡ Value v → Good (OKKept (record { name = record { start = 4; len = n }; kept = kept; crc = v })) ≡ okCrcBy n kept (readCrc t)
   ok-crc-is h = rw (sym read ∙ h)
 
 module _ (n : ℕ) (t : List ℕ) {m : Bool} (e : m ≡ marked 36 t) where
-  pub kept-unmarked : m ≡ false → MalformedOK ≡ okKept n t
+  pub kept-unmarked : m ≡ false → Bad ≡ okKept n t
   unfolding okKept
   kept-unmarked q = rw (sym e ∙ q)
 
@@ -144,30 +146,30 @@ module _ (n : ℕ) (t : List ℕ) {m : Bool} (e : m ≡ marked 36 t) where
     kept-value : readSize (upTo 35 (drop 1 t)) ≡ x
     kept-value = sym (read ∙ ap readSize (field ∙ ap (upTo 35) cut))
 
-    pub kept-bad : x ≡ Malformed → MalformedOK ≡ okKept n t
+    pub kept-bad : x ≡ Malformed → Bad ≡ okKept n t
     unfolding okKept
     kept-bad h = rw (sym e ∙ q, kept-value, h)
 
-    pub kept-on : {v : ℕ} {y : List ℕ} {r : Frame} → x ≡ Value v → y ≡ behind u → r ≡ okCrcBy n v (readCrc y) → r ≡ okKept n t
+    pub kept-on : {v : ℕ} {y : List ℕ} {r : FrameRead} → x ≡ Value v → y ≡ behind u → r ≡ okCrcBy n v (readCrc y) → r ≡ okKept n t
     unfolding okKept
     kept-on h g w = w ∙ rw (g, cut, sym e ∙ q, kept-value, h)
 
 module _ (t : List ℕ) where
-  pub ok-empty : length t ≡ 0 → OK ≡ okName t
+  pub ok-empty : length t ≡ 0 → Good OK ≡ okName t
   unfolding okName
   ok-empty h = rw (eq-eqb (length t) 0 h)
 
   module _ {m : Bool} (some : length t ≡ 0 → ⊥) (e : m ≡ isName t) where
-    pub ok-named : m ≡ true → OKName (record { start = 4; len = length t }) ≡ okName t
+    pub ok-named : m ≡ true → Good (OKName (record { start = 4; len = length t })) ≡ okName t
     unfolding okName
     ok-named q = rw (ne-eqb (length t) 0 some, sym e ∙ q)
 
-    pub ok-unnamed : m ≡ false → MalformedOK ≡ okName t
+    pub ok-unnamed : m ≡ false → Bad ≡ okName t
     unfolding okName
     ok-unnamed q = rw (ne-eqb (length t) 0 some, sym e ∙ q)
 
   module _ {m : Bool} (e : m ≡ hasHash t) where
-    pub ok-short : {r : Frame} → m ≡ false → r ≡ okName t → r ≡ okRead t
+    pub ok-short : {r : FrameRead} → m ≡ false → r ≡ okName t → r ≡ okRead t
     unfolding okRead
     ok-short q w = w ∙ rw (sym e ∙ q)
 
@@ -175,11 +177,11 @@ module _ (t : List ℕ) where
       named : isName (upTo 35 t) ≡ i
       named = sym (f ∙ ap isName field)
 
-      pub ok-bad-name : i ≡ false → MalformedOK ≡ okRead t
+      pub ok-bad-name : i ≡ false → Bad ≡ okRead t
       unfolding okRead
       ok-bad-name h = rw (sym e ∙ q, named, h)
 
-      pub ok-long : {y : List ℕ} {r : Frame} → i ≡ true → y ≡ behind t → r ≡ okKept (length s) y → r ≡ okRead t
+      pub ok-long : {y : List ℕ} {r : FrameRead} → i ≡ true → y ≡ behind t → r ≡ okKept (length s) y → r ≡ okRead t
       unfolding okRead
       ok-long h g w = w ∙ rw (g, field, sym e ∙ q, named, h)
 
@@ -196,12 +198,12 @@ module _ (b : List ℕ) where
     text-open q h = rw (sym e ∙ q, h)
 
   module _ {m1 : Bool} (e1 : m1 ≡ starts lineMark b) where
-    pub frame-line : {r : Frame} → m1 ≡ true → r ≡ lineOf b → r ≡ frameOf b
+    pub frame-line : {r : Frame} → m1 ≡ true → r ≡ lineFrame b → r ≡ frameOf b
     unfolding frameOf
     frame-line q w = w ∙ rw (sym e1 ∙ q)
 
     module _ (n1 : m1 ≡ false) {m2 : Bool} (e2 : m2 ≡ starts okMark b) where
-      pub frame-ok : {r : Frame} → m2 ≡ true → r ≡ okOf b → r ≡ frameOf b
+      pub frame-ok : {r : Frame} → m2 ≡ true → r ≡ okFrame b → r ≡ frameOf b
       unfolding frameOf
       frame-ok q w = w ∙ rw (sym e1 ∙ n1, sym e2 ∙ q)
 

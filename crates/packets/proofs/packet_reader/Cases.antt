@@ -10,7 +10,7 @@ use borrow.Author.Tests.{ne-eqb}
 use Rattle.fields.specs.Lists.{bytesAt}
 use Rattle.fields.specs.declared.Place.{Place}
 use Rattle.packets.specs.declared.Packet.the-variants.{DT, EF, ET, CN, TX}
-use Rattle.packets.specs.Packet.{headerRead, headerBy, resumeRead, nakBy, checksum, isSound, acknowledgeOf, enquiryBy, placeOf, dataOf, wholeOf}
+use Rattle.packets.specs.Packet.{headerPacket, resumeRead, nakBy, checksum, isSound, acknowledgeOf, enquiryBy, placeOf, dataOf, wholeOf}
 
 -- the byte behind the data at p, where x is their checksum
 module _ (k : Bool) (p : Place) (b : List ℕ) where
@@ -27,7 +27,7 @@ module _ (k : Bool) (p : Place) (b : List ℕ) where
 
 -- a whole packet b, by its first byte
 module _ (k : Bool) (b : List ℕ) where
-  pub whole-header : getD b 0 0 ≡ 1 → headerBy (headerRead (dataOf k b)) ≡ wholeOf k b
+  pub whole-header : getD b 0 0 ≡ 1 → headerPacket (dataOf k b) ≡ wholeOf k b
   unfolding wholeOf
   whole-header e = rw e
 

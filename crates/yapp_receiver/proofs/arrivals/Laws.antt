@@ -4,7 +4,7 @@ use mathlib.Core.List.{List, []}
 use Prim.Native.Nat.{ℕ}
 use Rattle.packets.specs.Content.{Content, contentOf}
 use Rattle.packets.specs.Kind.{look, kindOf}
-use Rattle.packets.specs.Data.{onHeader, onBlock}
+use Rattle.packets.specs.Data.{onHeader, onBlock, faultOf}
 use Rattle.packets.specs.declared.Packet.{Packet}
 use Rattle.packets.proofs.KindLaws.{kind-same}
 use Rattle.calls.specs.declared.Outcome.the-variants.{Malformed}
@@ -48,7 +48,7 @@ module _ (t : ReceiverSettings) (n : ReceiverNow) (a s : List ℕ) (p : Packet) 
   packet-by : (y : Action) → number ≡ actionNumber y → receiverTakes t n a (contentOf s p) ≡ receiverDoes t n a y (contentOf s p)
   packet-by y g = packet-is ∙ ap (λ (x : Action). receiverDoes t n a x (contentOf s p)) (action-same (receiverRow (n .state) kind) y (sym e ∙ g))
 
-  pub packet-header : number ≡ 14 → receiverTakes t n a (contentOf s p) ≡ onHeader (contentOf s p) (judges t n a) (fails n a Malformed)
+  pub packet-header : number ≡ 14 → receiverTakes t n a (contentOf s p) ≡ onHeader (contentOf s p) (judges t n a) (fails n a (Malformed (faultOf (contentOf s p))))
   unfolding receiverDoes actionNumber
   packet-header g = packet-by judge g
 

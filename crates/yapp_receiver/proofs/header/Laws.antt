@@ -11,7 +11,8 @@ use Rattle.fields.specs.Lists.{bytesAt}
 use Rattle.fields.specs.declared.Stamp.{Stamp}
 use Rattle.fields.specs.Stamps.{isPresent}
 use Rattle.packets.specs.Content.{rt, rf, re, contentOf}
-use Rattle.packets.specs.Data.{onHeader}
+use Rattle.fields.specs.Faults.{noFault}
+use Rattle.packets.specs.Data.{onHeader, faultOf}
 use Rattle.packets.specs.declared.Header.{Header}
 use Rattle.packets.specs.declared.Packet.{Packet}
 use Rattle.packets.specs.declared.Packet.the-variants.{RR, RF, AF, AT, CA, RT, SI, RI, HD, Malformed, DT, EF, ET, NR, RE, CN, TX, Dropped, Open}
@@ -54,12 +55,12 @@ module _ (t : ReceiverSettings) (n : ReceiverNow) (a own : List ℕ) (size : ℕ
 
 -- the order of judging
 module _ (t : ReceiverSettings) (n : ReceiverNow) (a s : List ℕ) (p : Packet) (h : Header) (e : p ≡ HD h) where
-  pub judges-room : t .room < h .size → onHeader (contentOf s p) (judges t n a) (fails n a MalformedHere) ≡ refuses n a NoRoom roomText
+  pub judges-room : t .room < h .size → onHeader (contentOf s p) (judges t n a) (fails n a (MalformedHere (faultOf (contentOf s p)))) ≡ refuses n a NoRoom roomText
   unfolding onHeader contentOf judges
   judges-room f = rw (e, lt-leb (h .size) (t .room) f)
 
   pub judges-record : h .size ≤ t .room → (v : Option Saved) → n .saved ≡ v
-      → onHeader (contentOf s p) (judges t n a) (fails n a MalformedHere)
+      → onHeader (contentOf s p) (judges t n a) (fails n a (MalformedHere (faultOf (contentOf s p))))
       ≡ judgeRecord t n a (bytesAt s (h .name)) (h .size) (h .stamp) v
   unfolding onHeader contentOf judges
   judges-record f v g =
@@ -81,7 +82,7 @@ no-header s f other RT h = refl
 no-header s f other SI h = refl
 no-header s f other (RI p) h = refl
 no-header s f other (HD x) h = absurd (miss headerless 8 tt h)
-no-header s f other Malformed h = refl
+no-header s f other (Malformed w) h = refl
 no-header s f other (DT b) h = refl
 no-header s f other EF h = refl
 no-header s f other ET h = refl
@@ -91,3 +92,29 @@ no-header s f other (CN p) h = refl
 no-header s f other (TX p) h = refl
 no-header s f other (Dropped n) h = refl
 no-header s f other Open h = refl
+
+-- every packet but a malformed HD
+abbrev faultless : List ℕ
+faultless = 0 ∷ 1 ∷ 2 ∷ 3 ∷ 4 ∷ 5 ∷ 6 ∷ 7 ∷ 8 ∷ 10 ∷ 11 ∷ 12 ∷ 13 ∷ 14 ∷ 15 ∷ 16 ∷ 17 ∷ 18 ∷ []
+
+pub no-fault : (s : List ℕ) (p : Packet) → OneOf faultless (tagOf the-type p) → faultOf (contentOf s p) ≡ noFault
+unfolding faultOf contentOf
+no-fault s RR h = refl
+no-fault s RF h = refl
+no-fault s AF h = refl
+no-fault s AT h = refl
+no-fault s CA h = refl
+no-fault s RT h = refl
+no-fault s SI h = refl
+no-fault s (RI p) h = refl
+no-fault s (HD x) h = refl
+no-fault s (Malformed w) h = absurd (miss faultless 9 tt h)
+no-fault s (DT b) h = refl
+no-fault s EF h = refl
+no-fault s ET h = refl
+no-fault s (NR p) h = refl
+no-fault s (RE r) h = refl
+no-fault s (CN p) h = refl
+no-fault s (TX p) h = refl
+no-fault s (Dropped n) h = refl
+no-fault s Open h = refl

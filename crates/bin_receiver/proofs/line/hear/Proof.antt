@@ -26,8 +26,8 @@ enum-known-line c = search needs
 judge-extended-requires : tie.Need-judge-extended-requires
 judge-extended-requires c κs = search needs
 
-enum-told : tie.Need-enum-told
-enum-told c = search needs
+enum-known-fault : tie.Need-enum-known-fault
+enum-known-fault c = search needs
 
 end-requires : tie.Need-end-requires
 end-requires c κs = search needs
@@ -52,8 +52,8 @@ returns-2 c h =
 returns-3 : tie.Need-returns-3
 unfolding receiverHears contentOf
 returns-3 c h =
-    let g = c .before .before .before .before .before .before .before .args in
-    ap (reached (now (g .name))) (hears-as (settingsBy (g .core)) (now (g .area)) (savedBy (g .core .keeping) (now (g .name))) (now (g .frame)) _ (c .before .before .before .frame-of .ensures) _ (c .before .enum-told .given .1))
+    let g = c .before .before .before .before .before .before .before .before .args in
+    ap (reached (now (g .name))) (hears-as (settingsBy (g .core)) (now (g .area)) (savedBy (g .core .keeping) (now (g .name))) (now (g .frame)) _ (c .before .before .before .before .frame-of .ensures) _ (c .before .before .fault .given .1))
     ∙ c .end .ensures (now (g .frame)) (now (g .name)) (now (g .area)) h
 
 returns-4 : tie.Need-returns-4
@@ -71,7 +71,7 @@ hear-spec =
     judge-basic-requires
     enum-known-line
     judge-extended-requires
-    enum-told
+    enum-known-fault
     end-requires
     go-requires
     returns

@@ -27,20 +27,20 @@ enum-known-got c = search needs
 resume-at-requires : tie.Need-resume-at-requires
 resume-at-requires c κs = search needs
 
-enum-told : tie.Need-enum-told
-enum-told c = search needs
+enum-known-got-2 : tie.Need-enum-known-got-2
+enum-known-got-2 c = search needs
 
 stops-requires : tie.Need-stops-requires
 stops-requires c κs = search needs
 
-enum-told-2 : tie.Need-enum-told-2
-enum-told-2 c = search needs
+enum-told : tie.Need-enum-told
+enum-told c = search needs
 
 stays-requires-2 : tie.Need-stays-requires-2
 stays-requires-2 c κs = search needs
 
-enum-told-3 : tie.Need-enum-told-3
-enum-told-3 c = search needs
+enum-told-2 : tie.Need-enum-told-2
+enum-told-2 c = search needs
 
 stays-requires-3 : tie.Need-stays-requires-3
 stays-requires-3 c κs = search needs
@@ -62,20 +62,20 @@ returns-2 c =
 returns-3 : tie.Need-returns-3
 unfolding senderHears contentOf
 returns-3 c =
-    let a = c .before .before .before .before .before .before .args in
-    hears-by (a .sender) (now (a .file)) (now (a .frame)) _ (c .stops .result) (c .before .before .before .frame-of .ensures) (c .before .enum-told .given .1) (ap (moveBy (a .sender) (now (a .file))) (c .stops .ensures))
+    let a = c .before .before .before .before .before .before .before .args in
+    hears-by (a .sender) (now (a .file)) (now (a .frame)) _ (c .stops .result) (c .before .before .before .before .frame-of .ensures) (c .before .before .got2 .given .1) (ap (moveBy (a .sender) (now (a .file))) (c .stops .ensures))
 
 returns-4 : tie.Need-returns-4
 unfolding senderHears contentOf
 returns-4 c =
     let a = c .before .before .before .before .before .before .args in
-    hears-by (a .sender) (now (a .file)) (now (a .frame)) _ (c .stays2 .result) (c .before .before .before .frame-of .ensures) (c .before .enum-told2 .given .1) (ap (moveBy (a .sender) (now (a .file))) (c .stays2 .ensures))
+    hears-by (a .sender) (now (a .file)) (now (a .frame)) _ (c .stays2 .result) (c .before .before .before .frame-of .ensures) (c .before .enum-told .given .1) (ap (moveBy (a .sender) (now (a .file))) (c .stays2 .ensures))
 
 returns-5 : tie.Need-returns-5
 unfolding senderHears contentOf
 returns-5 c =
     let a = c .before .before .before .before .before .before .args in
-    hears-by (a .sender) (now (a .file)) (now (a .frame)) _ (c .stays3 .result) (c .before .before .before .frame-of .ensures) (c .before .enum-told3 .given .1) (ap (moveBy (a .sender) (now (a .file))) (c .stays3 .ensures))
+    hears-by (a .sender) (now (a .file)) (now (a .frame)) _ (c .stays3 .result) (c .before .before .before .frame-of .ensures) (c .before .enum-told2 .given .1) (ap (moveBy (a .sender) (now (a .file))) (c .stays3 .ensures))
 
 returns-6 : tie.Need-returns-6
 returns-6 c =
@@ -91,11 +91,11 @@ hear-spec =
     stays-requires
     enum-known-got
     resume-at-requires
-    enum-told
+    enum-known-got-2
     stops-requires
-    enum-told-2
+    enum-told
     stays-requires-2
-    enum-told-3
+    enum-told-2
     stays-requires-3
     stays-requires-4
     returns

@@ -1,6 +1,6 @@
--- `outcome_number` gives document 01's number, case by case. Assumes nothing.
-use borrow.Author.Needs.{needs}
+-- `outcome_number` gives the number, case by case. Assumes nothing.
 use Rattle.calls.specs.Numbers.{outcomeNumber}
+use borrow.Author.Needs.{needs}
 use Rattle.calls.proofs.outcomes.outcome_number.Statement.{statement}
 use Rattle.calls.proofs.outcomes.outcome_number.Tie as tie
 
@@ -24,6 +24,12 @@ enum-told-6 c = search needs
 
 enum-told-7 : tie.Need-enum-told-7
 enum-told-7 c = search needs
+
+enum-known-outcome : tie.Need-enum-known-outcome
+enum-known-outcome c = search needs
+
+fault-number-requires : tie.Need-fault-number-requires
+fault-number-requires c κs = search needs
 
 enum-told-8 : tie.Need-enum-told-8
 enum-told-8 c = search needs
@@ -61,9 +67,6 @@ enum-told-18 c = search needs
 enum-told-19 : tie.Need-enum-told-19
 enum-told-19 c = search needs
 
-enum-told-20 : tie.Need-enum-told-20
-enum-told-20 c = search needs
-
 returns : tie.Need-returns
 unfolding outcomeNumber
 returns c = rw (c .enum-told .given .1)
@@ -94,55 +97,55 @@ returns-7 c = rw (c .enum-told7 .given .1)
 
 returns-8 : tie.Need-returns-8
 unfolding outcomeNumber
-returns-8 c = rw (c .enum-told8 .given .1)
+returns-8 c = rw (c .before .before .outcome .given .1) (c .fault-number .ensures)
 
 returns-9 : tie.Need-returns-9
 unfolding outcomeNumber
-returns-9 c = rw (c .enum-told9 .given .1)
+returns-9 c = rw (c .enum-told8 .given .1)
 
 returns-10 : tie.Need-returns-10
 unfolding outcomeNumber
-returns-10 c = rw (c .enum-told10 .given .1)
+returns-10 c = rw (c .enum-told9 .given .1)
 
 returns-11 : tie.Need-returns-11
 unfolding outcomeNumber
-returns-11 c = rw (c .enum-told11 .given .1)
+returns-11 c = rw (c .enum-told10 .given .1)
 
 returns-12 : tie.Need-returns-12
 unfolding outcomeNumber
-returns-12 c = rw (c .enum-told12 .given .1)
+returns-12 c = rw (c .enum-told11 .given .1)
 
 returns-13 : tie.Need-returns-13
 unfolding outcomeNumber
-returns-13 c = rw (c .enum-told13 .given .1)
+returns-13 c = rw (c .enum-told12 .given .1)
 
 returns-14 : tie.Need-returns-14
 unfolding outcomeNumber
-returns-14 c = rw (c .enum-told14 .given .1)
+returns-14 c = rw (c .enum-told13 .given .1)
 
 returns-15 : tie.Need-returns-15
 unfolding outcomeNumber
-returns-15 c = rw (c .enum-told15 .given .1)
+returns-15 c = rw (c .enum-told14 .given .1)
 
 returns-16 : tie.Need-returns-16
 unfolding outcomeNumber
-returns-16 c = rw (c .enum-told16 .given .1)
+returns-16 c = rw (c .enum-told15 .given .1)
 
 returns-17 : tie.Need-returns-17
 unfolding outcomeNumber
-returns-17 c = rw (c .enum-told17 .given .1)
+returns-17 c = rw (c .enum-told16 .given .1)
 
 returns-18 : tie.Need-returns-18
 unfolding outcomeNumber
-returns-18 c = rw (c .enum-told18 .given .1)
+returns-18 c = rw (c .enum-told17 .given .1)
 
 returns-19 : tie.Need-returns-19
 unfolding outcomeNumber
-returns-19 c = rw (c .enum-told19 .given .1)
+returns-19 c = rw (c .enum-told18 .given .1)
 
 returns-20 : tie.Need-returns-20
 unfolding outcomeNumber
-returns-20 c = rw (c .enum-told20 .given .1)
+returns-20 c = rw (c .enum-told19 .given .1)
 
 pub outcome-number-spec : {M : Type 1} → statement M
 outcome-number-spec =
@@ -155,6 +158,8 @@ outcome-number-spec =
     enum-told-5
     enum-told-6
     enum-told-7
+    enum-known-outcome
+    fault-number-requires
     enum-told-8
     enum-told-9
     enum-told-10
@@ -167,7 +172,6 @@ outcome-number-spec =
     enum-told-17
     enum-told-18
     enum-told-19
-    enum-told-20
     returns
     returns-2
     returns-3

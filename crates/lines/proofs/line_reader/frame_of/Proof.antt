@@ -7,20 +7,20 @@ use Rattle.lines.proofs.line_reader.frame_of.Tie as tie
 is-line-requires : tie.Need-is-line-requires
 is-line-requires c κs = search needs
 
-line-of-requires : tie.Need-line-of-requires
-line-of-requires c κs = search needs
+line-frame-requires : tie.Need-line-frame-requires
+line-frame-requires c κs = search needs
 
 returns : tie.Need-returns
-returns c = frame-line _ (c .before .before .is-line .ensures) (c .before .if1 .taken) (c .line-of .ensures)
+returns c = frame-line _ (c .before .before .is-line .ensures) (c .before .if1 .taken) (c .line-frame .ensures)
 
 is-ok-requires : tie.Need-is-ok-requires
 is-ok-requires c κs = search needs
 
-ok-of-requires : tie.Need-ok-of-requires
-ok-of-requires c κs = search needs
+ok-frame-requires : tie.Need-ok-frame-requires
+ok-frame-requires c κs = search needs
 
 returns-2 : tie.Need-returns-2
-returns-2 c = frame-ok _ (c .before .before .before .before .is-line .ensures) (c .before .before .before .if1 .left) (c .before .before .is-ok .ensures) (c .before .if2 .taken) (c .ok-of .ensures)
+returns-2 c = frame-ok _ (c .before .before .before .before .is-line .ensures) (c .before .before .before .if1 .left) (c .before .before .is-ok .ensures) (c .before .if2 .taken) (c .ok-frame .ensures)
 
 is-no-requires : tie.Need-is-no-requires
 is-no-requires c κs = search needs
@@ -54,10 +54,10 @@ frame-of-spec =
     tie.close
     (tie.spec
     is-line-requires
-    line-of-requires
+    line-frame-requires
     returns
     is-ok-requires
-    ok-of-requires
+    ok-frame-requires
     returns-2
     is-no-requires
     text-of-requires

@@ -7,7 +7,7 @@ use denote.Ref.{now}
 use lib.ListN.{getD}
 use Rattle.fields.specs.declared.Place.{Place}
 use Rattle.packets.specs.declared.Packet.the-variants.{DT, CN, TX}
-use Rattle.packets.specs.Packet.{headerRead, headerBy, resumeRead, nakBy, isSound, acknowledgeOf, enquiryBy, dataOf}
+use Rattle.packets.specs.Packet.{headerPacket, resumeRead, nakBy, isSound, acknowledgeOf, enquiryBy, dataOf}
 use Rattle.packets.proofs.packet_reader.Cases.{whole-header, whole-block, whole-file, whole-end, whole-enquiry, whole-acknowledge, whole-text, whole-nak, whole-other}
 use borrow.Author.Needs.{needs}
 use Rattle.packets.proofs.packet_reader.whole_of.Statement.{statement}
@@ -51,7 +51,7 @@ returns c =
     let k = c .before .before .before .before .before .before .args .checked in
     let s = now (c .before .before .before .before .before .before .args .b) in
     let e : getD s 0 0 ≡ 1 = sym (c .before .before .before .byte-at .ensures) ∙ c .before .before .match .keys1 in
-    c .header-packet .ensures ∙ ap (λ (d : List ℕ). headerBy (headerRead d)) (c .before .payload .ensures) ∙ whole-header k s e
+    c .header-packet .ensures ∙ ap headerPacket (c .before .payload .ensures) ∙ whole-header k s e
 
 returns-2 : tie.Need-returns-2
 returns-2 c =

@@ -19,14 +19,14 @@ returns-2 : tie.Need-returns-2
 returns-2 c =
     let a = c .before .before .before .before .args in
     let b : a .link .broken ≡ false = cc in
-    let e : leb 480 (a .receiver) ≡ true = cc in
+    let e : leb 1920 (a .receiver) ≡ true = cc in
     rw (b, e) (c .is-end2 .ensures)
 
 returns-3 : tie.Need-returns-3
 returns-3 c =
     let a = c .before .before .before .args in
     let b : a .link .broken ≡ false = cc in
-    let e : leb 480 (a .receiver) ≡ false = cc in
+    let e : leb 1920 (a .receiver) ≡ false = cc in
     simp (b, e)
 
 pub is-over-spec : {M : Type 1} → statement M

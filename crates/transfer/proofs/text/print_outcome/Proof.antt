@@ -22,7 +22,16 @@ put-word-requires : tie.Need-put-word-requires
 put-word-requires c κs = search needs
 
 returns : tie.Need-returns
-returns c = λ h. c .put-word .ensures (c .before .before .before .put .ensures (c .before .before .before .before .before .before .put-number .ensures h))
+returns c = λ h. c .put-word .ensures (c .before .before .before .before .put .ensures (c .before .before .before .before .before .before .before .put-number .ensures h))
+
+slice-aggregate-put-word-2 : tie.Need-slice-aggregate-put-word-2
+slice-aggregate-put-word-2 c = search needs
+
+put-word-requires-2 : tie.Need-put-word-requires-2
+put-word-requires-2 c κs = search needs
+
+returns-2 : tie.Need-returns-2
+returns-2 c = λ h. c .put-word2 .ensures (c .before .before .before .before .put .ensures (c .before .before .before .before .before .before .before .put-number .ensures h))
 
 pub print-outcome-spec : {M : Type 1} → statement M
 print-outcome-spec =
@@ -34,4 +43,7 @@ print-outcome-spec =
     put-requires
     slice-aggregate-put-word
     put-word-requires
-    returns)
+    returns
+    slice-aggregate-put-word-2
+    put-word-requires-2
+    returns-2)

@@ -1,8 +1,11 @@
 -- `judge` goes by the packet, the size and whether there is a record. Assumes nothing.
-use mathlib.Core.Path.{ap, _∙_}
+use mathlib.Core.Path.{sym, ap, _∙_}
 use denote.Ref.{now}
+use Rattle.fields.specs.declared.Fault.{Fault}
 use Rattle.calls.specs.declared.Keeping.{Keeping}
+use Rattle.calls.specs.declared.Outcome.the-variants.{Malformed}
 use Rattle.calls.specs.Saving.{savedBy}
+use Rattle.yapp.specs.Steps.{fails}
 use Rattle.yapp_receiver.specs.Receiver.{settingsBy, nowBy}
 use Rattle.yapp_receiver.specs.Step.{reached}
 use Rattle.yapp_receiver.proofs.header.Laws.{no-header, judges-room, judges-record}
@@ -13,14 +16,20 @@ use Rattle.yapp_receiver.proofs.header.judge.Tie as tie
 enum-known-packet : tie.Need-enum-known-packet
 enum-known-packet c = search needs
 
+fault-of-requires : tie.Need-fault-of-requires
+fault-of-requires c κs = search needs
+
 fail-requires : tie.Need-fail-requires
 fail-requires c κs = search needs
 
 returns : tie.Need-returns
 returns c a =
-    let g = c .before .before .before .before .args in
-    ap (reached (now (g .name))) (no-header (now (g .pending)) _ _ (g .packet) (c .before .match .keys2))
-    ∙ c .fail .ensures a (now (g .pending))
+    let g = c .before .before .before .before .before .args in
+    let s = now (g .pending) in
+    let n = nowBy (g .core) (g .checked) (now (g .name)) in
+    ap (reached (now (g .name))) (no-header s _ _ (g .packet) (c .before .before .match .keys2))
+    ∙ ap (λ (f : Fault). reached (now (g .name)) (fails n a (Malformed f))) (sym (c .before .fault-of .ensures s))
+    ∙ c .fail .ensures a s
 
 cast-if1 : tie.Need-cast-if1
 cast-if1 c = search needs
@@ -59,4 +68,4 @@ returns-4 c a =
     ∙ c .resume-file .ensures a
 
 pub judge-spec : {M : Type 1} → statement M
-judge-spec = tie.close (tie.spec enum-known-packet fail-requires returns cast-if1 refuse-requires returns-2 enum-known-keeping enum-told begin-file-requires returns-3 resume-file-requires returns-4)
+judge-spec = tie.close (tie.spec enum-known-packet fault-of-requires fail-requires returns cast-if1 refuse-requires returns-2 enum-known-keeping enum-told begin-file-requires returns-3 resume-file-requires returns-4)
