@@ -45,6 +45,8 @@ use Rattle.faults.specs.declared.Check.the-variants.{Faulty}
 use Rattle.faults.specs.Faults.{checkHeader, checkLine, checkOk, isSound}
 use Rattle.faults.specs.Search.{headerFaults, lineFaults}
 use Rattle.faults.specs.Place.{FirstOffending}
+use Rattle.faults.proofs.LeastHeader as header-search
+use Rattle.faults.proofs.LeastLine as line-search
 use Rattle.lines.specs.declared.Frame.the-variants.{MalformedLine, MalformedOK}
 use Rattle.lines.specs.Frame.{lineMark, okMark, starts, frameOf}
 use Rattle.lines.specs.WellFormed.{isLine, isOk}
@@ -204,7 +206,10 @@ header-place k b f e = (header-faults.place k b f e, header-faults.short k b f e
 pub header-least : (k : Bool) (b : List ℕ) (f : Fault) → packetOf k b ≡ Malformed f → headerFaults (frontData k b) ≡ Faulty f
 header-least = header-faults.least
 
--- the table finds a fault exactly where the reading calls a header malformed
+-- for any data the table and that search find the same, and they find a fault exactly where the reading calls a header malformed
+pub header-table : (d : List ℕ) → checkHeader d ≡ headerFaults d
+header-table = header-search.least-header
+
 pub header-agrees : (d : List ℕ) → isGood (headerRead d) ≡ isSound (checkHeader d)
 header-agrees = header-tables.agrees-header
 
@@ -215,6 +220,9 @@ line-place b f e = (line-faults.place-line b f e, line-faults.short-line b f e)
 
 pub line-least : (b : List ℕ) (f : Fault) → frameOf b ≡ MalformedLine f → lineFaults 5 (drop 5 b) ≡ Faulty f
 line-least = line-faults.least
+
+pub line-table : (b : List ℕ) → checkLine b ≡ lineFaults 5 (drop 5 b)
+line-table = line-search.least-line
 
 pub line-agrees : (b : List ℕ) → starts lineMark b ≡ true → isLine (frameOf b) ≡ isSound (checkLine b)
 line-agrees = line-tables.agrees-line

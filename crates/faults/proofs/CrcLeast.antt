@@ -1,6 +1,6 @@
 -- A CRC that the table reads: the fault is the one that is found by looking, else the reading goes on behind the closing byte. Assumes nothing.
 use mathlib.Core.Path.{_≡_, refl, sym, ap, subst, _∙_}
-use mathlib.Core.Bool.{Bool, true, false, not}
+use mathlib.Core.Bool.{Bool, true, false, not, Bool·not-not as not-not}
 use mathlib.Core.List.{List, [], _∷_, _++_}
 use mathlib.Core.Logic.{⊎-elim}
 use Prim.Native.Nat.{ℕ, suc, _+_, _-_, _*_, _≤_, _<_}
@@ -27,7 +27,7 @@ use Rattle.faults.specs.Faults.{crcWith, crcPart, inCrc, only, stepOf, e
 use Rattle.faults.specs.Search.{when, earlier, earliest, digits, pastDigits, begins, isValue, crcFaults}
 use Rattle.faults.proofs.Turns.{turn-to, turn-wrong, turn-end}
 use Rattle.faults.proofs.Crc.{crc-sixth, crc-over, crc-more}
-use Rattle.faults.proofs.SoundParts.{not-not, tooHigh}
+use Rattle.faults.proofs.SoundParts.{tooHigh}
 use Rattle.faults.proofs.Values.{value-digits, Valued, valued}
 use Rattle.faults.proofs.Earliest.{From, from-pick, from-check, earlier-none, leads, one, Stops, front-le, front-all, front-at, front-stops}
 

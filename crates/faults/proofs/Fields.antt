@@ -1,6 +1,6 @@
 -- Names, sizes, stamps and CRCs of lines and OKs: what is read leads from part to part, and what leads there is read. Assumes nothing.
 use mathlib.Core.Path.{_≡_, refl, sym, ap, _∙_}
-use mathlib.Core.Bool.{Bool, true, false, not}
+use mathlib.Core.Bool.{Bool, true, false, not, Bool·not-not as not-not}
 use mathlib.Core.List.{List, [], _∷_, _++_}
 use mathlib.Core.Logic.{_⊎_, inl, inr}
 use Prim.Native.Nat.{ℕ, _+_, _≤_, _<_}
@@ -31,7 +31,7 @@ use Rattle.faults.proofs.SizeLeast.{size-more, size-behind}
 use Rattle.faults.proofs.CrcLeast.{crc-read, crc-value, crc-least}
 use Rattle.faults.proofs.LeastLine.{stamp-more}
 use Rattle.faults.proofs.Values.{name-bytes, value-digits}
-use Rattle.faults.proofs.SoundParts.{sound-earlier, sound-is, not-not, some-not, leb-not, tooHigh, crc-sound}
+use Rattle.faults.proofs.SoundParts.{sound-earlier, sound-is, some-not, leb-not, tooHigh, crc-sound}
 use Rattle.faults.proofs.Sound.{SoundFrom, moved, After, after, forward, open-end, First, first-is, end-sound, Field, part-sound, field-of}
 
 -- a byte that belongs to a part is no other byte

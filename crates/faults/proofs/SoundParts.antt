@@ -1,6 +1,6 @@
 -- When there is nothing to find: a name that is closed and within the limits, digits that are closed. Assumes nothing.
 use mathlib.Core.Path.{_≡_, refl, sym, ap, _∙_}
-use mathlib.Core.Bool.{Bool, true, false, not, _&&_}
+use mathlib.Core.Bool.{Bool, true, false, not, _&&_, and-true, and-false, Bool·not-not as not-not}
 use mathlib.Core.List.{List, [], _∷_}
 use mathlib.Core.Logic.{⊎-elim}
 use Prim.Native.Nat.{ℕ, zero, suc, _+_, _≤_, _<_}
@@ -35,18 +35,6 @@ sound-when false w i = refl
 
 sound-after : (b : Bool) (w : Flaw) (i : ℕ) (x : Check) → isSound (earlier (when b w i) x) ≡ (not b && isSound x)
 sound-after b w i x = sound-earlier (when b w i) x ∙ ap (λ (t : Bool). t && isSound x) (sound-when b w i)
-
-and-true : (a : Bool) → (a && true) ≡ a
-and-true true = refl
-and-true false = refl
-
-and-false : (a : Bool) → (a && false) ≡ false
-and-false true = refl
-and-false false = refl
-
-pub not-not : (a : Bool) → not (not a) ≡ a
-not-not true = refl
-not-not false = refl
 
 pub leb-not : (a b : ℕ) → leb a b ≡ not (ltb b a)
 leb-not a b = ⊎-elim

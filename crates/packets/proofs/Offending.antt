@@ -1,17 +1,19 @@
 -- A malformed header carries what is wrong, and where. (Change request 2026-02.) Assumes nothing.
 use mathlib.Core.Path.{_≡_, refl, sym, ap, _∙_}
 use mathlib.Core.Bool.{Bool, true, false}
-use mathlib.Core.List.{List, []}
+use mathlib.Core.List.{List, [], _∷_}
 use Prim.Native.Nat.{ℕ, _≤_}
 use native.Mathlib.Omega.{arith}
 use lib.ListN.{take, getD}
 use lib.Dec.{eqb}
 use Rattle.fields.specs.declared.Fault.{Fault}
+use Rattle.fields.specs.declared.Flaw.the-variants.{NameOpen}
 use Rattle.fields.specs.declared.Place.{Place}
+use Rattle.fields.specs.Lists.{upTo}
 use Rattle.fields.proofs.Lists.{never, either}
 use Rattle.faults.specs.declared.Check.{Check}
 use Rattle.faults.specs.declared.Check.the-variants.{Sound, Faulty}
-use Rattle.faults.specs.Faults.{checkHeader, faultIn, isSound}
+use Rattle.faults.specs.Faults.{endOf, checkFrom, checkHeader, faultIn, isSound}
 use Rattle.faults.specs.Search.{headerFaults}
 use Rattle.faults.specs.Place.{FirstOffending}
 use Rattle.faults.proofs.LeastHeader.{least-header}
@@ -25,7 +27,7 @@ use Rattle.packets.specs.declared.spans.Span.{Span}
 use Rattle.packets.specs.declared.spans.Span.the-variants.{Open as Unfinished, Whole, Drop}
 use Rattle.packets.specs.declared.Packet.{Packet}
 use Rattle.packets.specs.declared.Packet.the-variants.{RR, RF, AF, AT, CA, RT, SI, RI, HD, Malformed, DT, EF, ET, NR, RE, CN, TX, Dropped, Open}
-use Rattle.packets.specs.Span.{span}
+use Rattle.packets.specs.Span.{known, paired, counted, total, spanAt, span, lead, trail, placeAt}
 use Rattle.packets.specs.Packet.{headerRead, headerBy, headerPacket, resumeRead, nakBy, acknowledgeOf, placeOf, dataOf, wholeOf, packetIn, packetOf, dataIn, frontData}
 use Rattle.packets.specs.Content.{contentOf}
 use Rattle.packets.specs.Kind.{kindOf, BadHD}
@@ -118,3 +120,9 @@ module _ (checked : Bool) (b : List ℕ) (f : Fault) (e : packetOf checked b ≡
   -- THE LAW: number and place are those of the fault that counts, each looked for by itself
   pub least : headerFaults (frontData checked b) ≡ Faulty f
   least = sym (least-header (frontData checked b)) ∙ found
+
+-- ---- There are such packets: 01 00, a header without data
+
+example : packetOf false (1 ∷ 0 ∷ []) ≡ Malformed (record { flaw = NameOpen; offset = 0 })
+unfolding known paired counted total spanAt lead trail placeAt wholeOf headerRead upTo checkHeader checkFrom endOf
+example = refl
