@@ -1,8 +1,10 @@
 // #BIN#, basic and extended: the states of sender and receiver, and what they do.
+#![tactic(auto)]
+
 use calls::Outcome;
 use crc::Reading;
 
-#[derive(Drop)]
+#[derive(Clone, Copy)]
 pub enum SenderState {
     // Nothing was sent yet.
     Start,
@@ -14,7 +16,7 @@ pub enum SenderState {
 }
 
 // What a sender is begun with beside name, size and block: nothing in a basic transfer.
-#[derive(Drop)]
+#[derive(Clone, Copy)]
 pub enum Announce {
     Basic,
     // The stamp, whether resume is possible, and the reading that the session's CRCs go by, which the line does not tell.
@@ -25,7 +27,7 @@ pub enum Announce {
     },
 }
 
-#[derive(Drop)]
+#[derive(Clone, Copy)]
 pub enum ReceiverState {
     Waiting,
     // A basic transfer: the size, and how many bytes came.

@@ -1,4 +1,6 @@
 // The #BIN# receiver.
+#![tactic(auto)]
+
 ghost use Rattle.std.specs.Prelude.{◌≡◌, List, [], length, ℕ, ◌≤◌};
 ghost use Rattle.std.proofs.Math.Option.{none};
 ghost use Rattle.records.specs.Saved.{saved_of};
@@ -21,14 +23,14 @@ mod line;
 mod output;
 mod step;
 
-#[derive(Drop)]
+#[derive(Clone, Copy)]
 pub struct Receiver {
     // The record's name stands at the front.
     name: [u8; 64],
     core: ReceiverCore,
 }
 
-#[derive(Drop)]
+#[derive(Clone, Copy)]
 pub struct ReceiverAnswer {
     pub receiver: Receiver,
     pub status: Status,

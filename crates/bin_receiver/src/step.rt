@@ -13,7 +13,7 @@ use crc::Reading;
 use fields::Place;
 
 // A receiver but for the bytes of its record's name.
-#[derive(Drop)]
+#[derive(Clone, Copy)]
 pub struct ReceiverCore {
     pub state: ReceiverState,
     // The length of the area (document 01: the file area).
@@ -26,7 +26,7 @@ pub struct ReceiverCore {
 }
 
 // What is said.
-#[derive(Drop)]
+#[derive(Clone, Copy)]
 pub enum Out {
     Silent,
     // `#NO#` with the text of 71 to 76 and 7, 8, 9 or 10.
@@ -43,7 +43,7 @@ pub enum Out {
 }
 
 // What is to be done.
-#[derive(Drop)]
+#[derive(Clone, Copy)]
 pub struct Step {
     pub state: ReceiverState,
     pub keeping: Keeping,

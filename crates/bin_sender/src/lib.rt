@@ -1,4 +1,6 @@
 // The #BIN# sender.
+#![tactic(auto)]
+
 ghost use Rattle.std.specs.Prelude.{◌≡◌, ◌≤◌, length};
 ghost use Rattle.calls.specs.Checks.{check_of};
 ghost use Rattle.bin.specs.Steps.{sender_ended};
@@ -15,13 +17,13 @@ mod arrivals;
 mod output;
 mod step;
 
-#[derive(Drop)]
+#[derive(Clone, Copy)]
 pub struct Sender {
     name: [u8; 64],
     core: SenderCore,
 }
 
-#[derive(Drop)]
+#[derive(Clone, Copy)]
 pub struct SenderAnswer {
     pub sender: Sender,
     pub status: Status,

@@ -12,7 +12,7 @@ use calls::Outcome;
 use fields::Limits;
 
 // A sender but for the bytes of the file's name.
-#[derive(Drop)]
+#[derive(Clone, Copy)]
 pub struct SenderCore {
     pub state: SenderState,
     pub announce: Announce,
@@ -24,7 +24,7 @@ pub struct SenderCore {
 }
 
 // What is sent.
-#[derive(Drop)]
+#[derive(Clone, Copy)]
 pub enum Out {
     Nothing,
     Line,
@@ -34,7 +34,7 @@ pub enum Out {
 }
 
 // What a call that is taken does.
-#[derive(Drop)]
+#[derive(Clone, Copy)]
 pub struct Step {
     pub state: SenderState,
     pub out: Out,

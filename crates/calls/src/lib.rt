@@ -1,4 +1,6 @@
 // What the calls of every sender and receiver have in common.
+#![tactic(auto)]
+
 ghost use Rattle.std.specs.Prelude.{◌≡◌};
 ghost use Rattle.calls.specs.Numbers.{status_number};
 ghost use Rattle.calls.specs.Checks.{check_of, check_number, is_taken};
@@ -10,7 +12,7 @@ pub mod outcomes;
 pub mod saving;
 
 // How an end ended. The first number stays through CW. A beginning that is refused (1 to 5) gives an end that has ended.
-#[derive(Drop)]
+#[derive(Clone, Copy)]
 pub enum Outcome {
     // 0
     Success,
@@ -53,14 +55,14 @@ pub enum Outcome {
 }
 
 // The place that goes with a malformed header, line or OK: in its data or in the frame.
-#[derive(Drop)]
+#[derive(Clone, Copy)]
 pub enum Offset {
     At(usize),
     Nowhere,
 }
 
 // Whether a call was taken, or why it was refused: a refused call changes nothing anywhere.
-#[derive(Drop)]
+#[derive(Clone, Copy)]
 pub enum Status {
     Taken,
     // 18: the end has ended.
@@ -74,7 +76,7 @@ pub enum Status {
 }
 
 // A record of a file but for the bytes of its name, which stand in an array beside it.
-#[derive(Drop)]
+#[derive(Clone, Copy)]
 pub struct Entry {
     // How long the name is.
     pub named: usize,
@@ -83,14 +85,14 @@ pub struct Entry {
     pub stamp: Stamp,
 }
 
-#[derive(Drop)]
+#[derive(Clone, Copy)]
 pub enum Keeping {
     Nothing,
     Of(Entry),
 }
 
 // What the writing of a receiver's record answers.
-#[derive(Drop)]
+#[derive(Clone, Copy)]
 pub enum RecordAnswer {
     NoRecord,
     Record(Written),

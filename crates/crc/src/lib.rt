@@ -1,4 +1,6 @@
 // The CRC of #BIN#, by the table of remainders, in the two readings of request 2026-06.
+#![tactic(auto)]
+
 ghost use Rattle.std.specs.Prelude.{◌≡◌, ◌/◌, ◌<◌};
 ghost use Rattle.std.specs.Int.Bits.{bit_xor};
 ghost use Rattle.crc.specs.Crc.{entry, table, byte_step, walk_from, crc_by};
@@ -6,7 +8,7 @@ ghost use Rattle.crc.specs.Crc.{entry, table, byte_step, walk_from, crc_by};
 mod rows;
 
 // How the bytes go in (request 2026-06: the old and the new reading). A session is set to one of them.
-#[derive(Drop)]
+#[derive(Clone, Copy)]
 pub enum Reading {
     // Document 01's: the remainder of the file itself.
     Bare,

@@ -1,4 +1,6 @@
 // The CRC of `crc` for C and Rust to call, a function for each reading.
+#![tactic(auto)]
+
 ghost use Rattle.std.specs.Prelude.{◌≡◌};
 ghost use Rattle.crc.specs.Crc.{walk_from};
 

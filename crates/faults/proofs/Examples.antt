@@ -1,7 +1,6 @@
 -- Examples of the table, computed: what change request 2026-02 gives for each, worked out from its words. Assumes nothing.
 use mathlib.Core.Path.{◌≡◌, refl}
 use mathlib.Core.List.{List, [], ◌∷◌}
-use Prim.Native.Nat.{ℕ}
 use Rattle.fields.specs.Name.{is_name_byte}
 use Rattle.fields.specs.declared.Flaw.TheVariants.{NameOpen, NameLength, NameByte, NoDigits, ManyDigits, SizeOpen, Other}
 use Rattle.numbers.specs.Reading.{hex_digit}

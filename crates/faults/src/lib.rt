@@ -1,4 +1,6 @@
 // Where a header, a line or an OK is wrong: what is wrong and at which byte. (Change request 2026-02.)
+#![tactic(auto)]
+
 ghost use Rattle.std.specs.Prelude.{◌≡◌, true, drop};
 ghost use Rattle.numbers.specs.Reading.{is_digit};
 ghost use Rattle.faults.specs.Faults.{name_part, size_part, crc_before, crc_part, is_hex, only as only_of, line_closing, step_of, size_end, end_of, end_by, check_from, fault_in, header_fault, line_fault, ok_fault};
@@ -7,7 +9,7 @@ use fields::{Fault, Flaw, Limits, names};
 use numbers::digit_reader;
 
 // How far the reading is: how many bytes of a part were read, and of a CRC the value of its digits; or which byte is awaited.
-#[derive(Drop)]
+#[derive(Clone, Copy)]
 pub enum Stage {
     HeaderName { count: usize },
     HeaderSize { count: usize },
@@ -32,7 +34,7 @@ pub enum Stage {
 }
 
 // What a byte is within a name or a size.
-#[derive(Drop)]
+#[derive(Clone, Copy)]
 enum Part {
     // It belongs there; how many there are with it.
     More(usize),
@@ -42,7 +44,7 @@ enum Part {
 }
 
 // What a byte is within a CRC.
-#[derive(Drop)]
+#[derive(Clone, Copy)]
 enum CrcPart {
     MoreCrc { count: usize, value: usize },
     BehindCrc,
@@ -50,21 +52,21 @@ enum CrcPart {
 }
 
 // What a byte leads to.
-#[derive(Drop)]
+#[derive(Clone, Copy)]
 enum Move {
     To(Stage),
     Offends(Flaw),
 }
 
 // Whether the bytes may end at a stage, or which fault it is.
-#[derive(Drop)]
+#[derive(Clone, Copy)]
 enum Ending {
     Whole,
     Missing(Flaw),
 }
 
 // Whether there is a fault.
-#[derive(Drop)]
+#[derive(Clone, Copy)]
 pub enum Check {
     Sound,
     Faulty(Fault),

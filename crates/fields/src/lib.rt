@@ -1,4 +1,6 @@
 // What packets, lines and records share: places, stamps, limits, parts of a slice; file names; bytes written into a lent buffer.
+#![tactic(auto)]
+
 ghost use Rattle.std.specs.Prelude.{◌≡◌, ◌≤◌, length, get_or};
 ghost use Rattle.fields.specs.Lists.{part as part_of, bytes_at, up_to};
 
@@ -6,7 +8,7 @@ pub mod buffers;
 pub mod names;
 
 // What a writer answers: how many bytes it wrote, or why it wrote none.
-#[derive(Drop)]
+#[derive(Clone, Copy)]
 pub enum Written {
     Bytes(usize),
     // The buffer is too small (20).
@@ -16,14 +18,14 @@ pub enum Written {
 }
 
 // A stretch of bytes: where it starts and how many there are.
-#[derive(Drop)]
+#[derive(Clone, Copy)]
 pub struct Place {
     pub start: usize,
     pub len: usize,
 }
 
 // A file's date and time, where a header, a line or a record carries it.
-#[derive(Drop)]
+#[derive(Clone, Copy)]
 pub enum Stamp {
     // The DOS date times 65,536 plus the time.
     Present(u32),
@@ -31,7 +33,7 @@ pub enum Stamp {
 }
 
 // What is wrong with a header, a line or an OK. (Change request 2026-02.)
-#[derive(Drop)]
+#[derive(Clone, Copy)]
 pub enum Flaw {
     // 71: no closing byte behind the name.
     NameOpen,
@@ -50,14 +52,14 @@ pub enum Flaw {
 }
 
 // What is wrong, and where: the offset of the first offending byte, in the data of a header or in the frame; the length where they simply end.
-#[derive(Drop)]
+#[derive(Clone, Copy)]
 pub struct Fault {
     pub flaw: Flaw,
     pub offset: usize,
 }
 
 // The limits of document 01.
-#[derive(Drop)]
+#[derive(Clone, Copy)]
 pub struct Limits {}
 
 impl Limits {

@@ -1,4 +1,6 @@
 // The elements of #BIN#: what a frame says, how it starts. Places count from the frame's first byte.
+#![tactic(auto)]
+
 ghost use Rattle.std.specs.Prelude.{◌≡◌};
 ghost use Rattle.fields.specs.Lists.{same as same_of};
 ghost use Rattle.lines.specs.Frame.{stop_frame, display_mark, starts as starts_of};
@@ -9,7 +11,7 @@ pub mod line_reader;
 mod line_stamps;
 
 // An extended line.
-#[derive(Drop)]
+#[derive(Clone, Copy)]
 pub struct Line {
     pub size: u32,
     pub crc: u16,
@@ -21,7 +23,7 @@ pub struct Line {
 }
 
 // The third OK: what the receiver has kept, and its CRC.
-#[derive(Drop)]
+#[derive(Clone, Copy)]
 pub struct Kept {
     pub name: Place,
     pub kept: u32,
@@ -29,7 +31,7 @@ pub struct Kept {
 }
 
 // What a frame says.
-#[derive(Drop)]
+#[derive(Clone, Copy)]
 pub enum Frame {
     // A basic line: the size.
     Basic(u32),
@@ -51,7 +53,7 @@ pub enum Frame {
 }
 
 // What stands behind `#BIN#` or `#OK#`, if it is well-formed.
-#[derive(Drop)]
+#[derive(Clone, Copy)]
 pub enum FrameRead {
     Good(Frame),
     Bad,

@@ -4,6 +4,8 @@
 //
 // Without a file the capture comes on standard input. What fails is said on standard error and ends the work, so a listing that is not whole
 // has no line `end`.
+#![tactic(auto)]
+
 ghost use Rattle.std.specs.Prelude.{◌≤◌, length};
 
 use fields::buffers;
@@ -11,7 +13,7 @@ use libc::{STDERR_FILENO, STDIN_FILENO, STDOUT_FILENO};
 use listing::Lister;
 
 // The lister behind a chunk, and how many bytes of the buffer are the chunk's lines.
-#[derive(Drop)]
+#[derive(Clone, Copy)]
 struct Lines {
     lister: Lister,
     count: usize,

@@ -1,4 +1,6 @@
 // The listing of a capture of YAPP packets, a line at a time: `offset kind data`. The capture comes in chunks (document 01's portions).
+#![tactic(auto)]
+
 ghost use Rattle.std.specs.Prelude.{◌≡◌, ◌≤◌, length};
 ghost use Rattle.fields.specs.Buffer.{over};
 ghost use Rattle.packets.specs.Span.{size_of};
@@ -11,7 +13,7 @@ use packets::spans::Span;
 
 mod lines;
 
-#[derive(Drop)]
+#[derive(Clone, Copy)]
 pub struct Lister {
     reader: Reader,
     // Where the next packet starts in the capture.
@@ -19,7 +21,7 @@ pub struct Lister {
 }
 
 // What a chunk came to: at most one line.
-#[derive(Drop)]
+#[derive(Clone, Copy)]
 pub struct Listed {
     pub lister: Lister,
     // How many bytes of the chunk were taken.

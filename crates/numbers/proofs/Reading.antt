@@ -134,7 +134,7 @@ pub value_grows : (b : Base) (acc v : ℕ) (s : List ℕ) → value_from b acc s
 value_grows b acc v [] e = let w : acc ≡ v = cc (value_none b acc) in omega arith
 value_grows b acc v (c ∷ s) e =
     let d = value-digit b acc c v s e in
-    omega (arith, value_grows b _ v s d.1, mul-le-mul_right acc (radix-some b))
+    omega (arith, value_grows b (acc * radix b + digit b c) v s d.1, mul-le-mul_right acc (radix-some b))
 
 -- a byte that is no digit stands nowhere in what has a value
 pub value-without : (b : Base) (x acc v : ℕ) (s : List ℕ) → radix b ≤ digit b x → value_from b acc s ≡ Value v → up_to x s ≡ s
@@ -143,7 +143,7 @@ value-without b x acc v [] h e = refl
 value-without b x acc v (c ∷ s) h e =
     let d = value-digit b acc c v s e in
     let n : c ≡ x → ⊥ = λ q. omega (arith, d.0, ap (digit b) q) in
-    rw (ne_eqb c x n, value-without b x _ v s h d.1)
+    rw (ne_eqb c x n, value-without b x (acc * radix b + digit b c) v s h d.1)
 
 -- Each field, case by case
 

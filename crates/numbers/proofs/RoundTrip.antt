@@ -2,7 +2,7 @@
 use mathlib.Core.Path.{◌≡◌, refl, sym, ap, ◌∙◌}
 use mathlib.Core.Bool.{Bool, true, false, ◌||◌}
 use mathlib.Core.List.{List, [], ◌∷◌, ◌++◌, append_assoc, append-nil}
-use mathlib.Core.Logic.{◌⊎◌, ⊎_elim}
+use mathlib.Core.Logic.{⊎_elim}
 use Prim.Native.Nat.{ℕ, zero, suc, ◌+◌, ◌-◌, ◌*◌, ◌/◌, ◌%◌, ◌^◌, ◌≤◌, ◌<◌}
 use native.Mathlib.Nat.{zero-add, add-zero, pow-suc, pow-le-pow_right}
 use native.Mathlib.Numerals.{add-one}
@@ -31,7 +31,7 @@ snoc b acc c v [] h e =
     value-one b acc c [] h ∙ value_none b _ ∙ ap (λ (x : ℕ). Value (x * radix b + digit b c)) w
 snoc b acc c v (a ∷ s) h e =
     let d = value-digit b acc a v s e in
-    value-one b acc a _ d.0 ∙ snoc b _ c v s h d.1
+    value-one b acc a _ d.0 ∙ snoc b (acc * radix b + digit b a) c v s h d.1
 
 -- what is written for a digit reads as it
 decimal_digit_lem : (n : ℕ) → n < 10 → decimal_digit (48 + n) ≡ n

@@ -1,4 +1,6 @@
 // Numbers read and written: decimal and hex digits, most significant first, and little-endian bytes.
+#![tactic(auto)]
+
 pub mod digit_reader;
 pub mod hex_writer;
 pub mod little_reader;
@@ -6,14 +8,14 @@ pub mod little_writer;
 pub mod numerals;
 
 // What a field that should hold a number reads as.
-#[derive(Drop)]
+#[derive(Clone, Copy)]
 pub enum Number {
     Value(u32),
     Malformed,
 }
 
 // The digits that a number is written in.
-#[derive(Drop)]
+#[derive(Clone, Copy)]
 pub enum Base {
     Decimal,
     Hex,

@@ -19,7 +19,7 @@ use Rattle.packet_stream.specs.Pending.{Fed, feed}
 use Rattle.packet_stream.specs.Reader.{fresh, received}
 use Rattle.packet_stream.specs.Stream.{Piece, Stream, piece_of, joined, by_span, stream_from, stream_of, Run, noted, ran, hand_over, hand_all, Bytes}
 use Rattle.packet_stream.proofs.Framing.{Waits, Goes, Stops, fed}
-use Rattle.packet_stream.proofs.Held.{piece-more, front, front-closed, stream-front}
+use Rattle.packet_stream.proofs.Held.{piece-more, front-closed, stream-front}
 
 -- ---- bytes
 

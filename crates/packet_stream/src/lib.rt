@@ -1,4 +1,6 @@
 // Reads YAPP packets that come in chunks (document 01's portions) of any size.
+#![tactic(auto)]
+
 ghost use Rattle.std.specs.Prelude.{◌≡◌};
 ghost use Rattle.packet_stream.specs.Reader.{fresh, checking, receive as receive_of};
 
@@ -7,7 +9,7 @@ use packets::{Packet, packet_reader};
 
 mod pending;
 
-#[derive(Drop)]
+#[derive(Clone, Copy)]
 pub struct Reader {
     // The bytes of an unfinished packet (document 01's waiting room), and after a packet its bytes.
     pending: [u8; 259],
@@ -18,7 +20,7 @@ pub struct Reader {
 }
 
 // What a chunk came to.
-#[derive(Drop)]
+#[derive(Clone, Copy)]
 pub struct Received {
     pub reader: Reader,
     // How many bytes of the chunk were taken: at most to the end of one packet.

@@ -6,7 +6,7 @@ use packets::spans;
 use packets::spans::Span;
 
 // What the bytes of a chunk came to.
-#[derive(Drop)]
+#[derive(Clone, Copy)]
 pub struct Filled {
     // How many bytes wait.
     pub filled: usize,

@@ -1,5 +1,7 @@
 // Writes YAPP packets into a reply buffer (document 01's reply room) of at least 259 bytes. Every byte of it behind the packet
 // stays, and a refusal leaves all as it was: a buffer under 259 bytes is 20, a packet that has no form is 22.
+#![tactic(auto)]
+
 ghost use Rattle.std.specs.Prelude.{◌≡◌, false, [], ◌∷◌};
 ghost use Rattle.fields.specs.Buffer.{formless, bytes as bytes_form, written_of, left_of};
 ghost use Rattle.packets.specs.declared.Packet.TheVariants.{HD, DT};

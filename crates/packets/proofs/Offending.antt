@@ -1,6 +1,6 @@
 -- A malformed header carries what is wrong, and where. (Change request 2026-02.) Assumes nothing.
 use mathlib.Core.Path.{◌≡◌, refl, sym, ap, ◌∙◌}
-use mathlib.Core.Bool.{Bool, true, false}
+use mathlib.Core.Bool.{Bool, false}
 use mathlib.Core.List.{List, [], ◌∷◌}
 use Prim.Native.Nat.{ℕ, ◌≤◌}
 use native.Mathlib.Omega.{arith}
@@ -26,7 +26,7 @@ use Rattle.packets.specs.declared.ResumeRead.TheVariants.{Asked, Nothing}
 use Rattle.packets.specs.declared.spans.Span.{Span}
 use Rattle.packets.specs.declared.spans.Span.TheVariants.{Open as Unfinished, Whole, Drop}
 use Rattle.packets.specs.declared.Packet.{Packet}
-use Rattle.packets.specs.declared.Packet.TheVariants.{RR, RF, AF, AT, CA, RT, SI, RI, HD, Malformed, DT, EF, ET, NR, RE, CN, TX, Dropped, Open}
+use Rattle.packets.specs.declared.Packet.TheVariants.{RR, RF, AF, AT, CA, RT, SI, RI, Malformed, DT, EF, ET, NR, RE, CN, TX, Dropped, Open}
 use Rattle.packets.specs.Span.{known, paired, counted, total, span_at, span, lead, trail, place_at}
 use Rattle.packets.specs.Packet.{header_read, header_by, header_packet, resume_read, nak_by, acknowledge_of, place_of, data_of, whole_of, packet_in, packet_of, data_in, front_data}
 use Rattle.packets.specs.Content.{content_of}

@@ -1,4 +1,6 @@
 // YAPP packets: what their bytes say; where the data stand, and their checksum.
+#![tactic(auto)]
+
 ghost use Rattle.std.specs.Prelude.{◌≡◌};
 ghost use Rattle.packets.specs.Span.{lead as lead_of, trail as trail_of};
 ghost use Rattle.packets.specs.Packet.{checksum as checksum_of, place_of};
@@ -12,7 +14,7 @@ pub mod resume_reader;
 pub mod spans;
 
 // A header: where the name stands in the packet, the size of the file, the stamp.
-#[derive(Drop)]
+#[derive(Clone, Copy)]
 pub struct Header {
     pub name: Place,
     pub size: u32,
@@ -20,7 +22,7 @@ pub struct Header {
 }
 
 // What a resume asks for.
-#[derive(Drop)]
+#[derive(Clone, Copy)]
 pub struct Resume {
     pub position: u32,
     // Whether `C` stands: YappC from here on.
@@ -28,7 +30,7 @@ pub struct Resume {
 }
 
 // The data of a DT.
-#[derive(Drop)]
+#[derive(Clone, Copy)]
 pub struct Block {
     pub place: Place,
     // Whether the checksum agrees; true where there is none.
@@ -36,7 +38,7 @@ pub struct Block {
 }
 
 // A packet. Places count from the packet's first byte.
-#[derive(Drop)]
+#[derive(Clone, Copy)]
 pub enum Packet {
     RR,
     RF,
@@ -63,14 +65,14 @@ pub enum Packet {
 }
 
 // What the data of a header say.
-#[derive(Drop)]
+#[derive(Clone, Copy)]
 pub enum HeaderRead {
     Good(Header),
     Bad,
 }
 
 // Whether the data of a NAK are a resume.
-#[derive(Drop)]
+#[derive(Clone, Copy)]
 pub enum ResumeRead {
     Asked(Resume),
     Nothing,

@@ -3,7 +3,7 @@ ghost use Rattle.std.specs.Prelude.{◌≡◌};
 ghost use Rattle.packets.specs.Span.{known, paired, data_length, total, span as span_of};
 
 // What stands at the front of the bytes at hand.
-#[derive(Drop)]
+#[derive(Clone, Copy)]
 pub enum Span {
     // A packet that is not finished yet, or nothing.
     Open,

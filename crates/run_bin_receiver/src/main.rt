@@ -13,6 +13,8 @@
 //
 // In a record and a frame `<0D>` is the byte 0D. Any other line is a title.
 // A line has at most 1200 bytes, a script 16384: a longer one is not played, and a line says so.
+#![tactic(auto)]
+
 use bin::ReceiverState;
 use bin_receiver::{Receiver, ReceiverAnswer};
 use calls::Status;

@@ -9,6 +9,8 @@
 //
 // In a name, a file and a frame `<0D>` is the byte 0D. Any other line is a title.
 // A line has at most 1200 bytes, a script 16384: a longer one is not played, and a line says so.
+#![tactic(auto)]
+
 use bin::SenderState;
 use bin_sender::{Sender, SenderAnswer};
 use calls::Status;

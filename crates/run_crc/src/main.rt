@@ -1,4 +1,6 @@
 // Prints the table of `crc` in the layout of source document 003.
+#![tactic(auto)]
+
 ghost use Rattle.std.specs.Prelude.{◌≡◌, ◌<◌};
 ghost use Rattle.run_crc.specs.Text.{hex_digit, text_of};
 

@@ -13,14 +13,14 @@ use crc::Reading;
 use script::printing::put_text;
 
 // The reading of the CRC that each end is set to.
-#[derive(Drop)]
+#[derive(Clone, Copy)]
 pub struct Readings {
     pub sender: Reading,
     pub receiver: Reading,
 }
 
 // What stands between two turns.
-#[derive(Drop)]
+#[derive(Clone, Copy)]
 struct Ends {
     sender: Sender,
     receiver: Receiver,

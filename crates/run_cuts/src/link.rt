@@ -10,7 +10,7 @@ use numbers::{Number, little_reader};
 pub const RUNNING: u8 = 255;
 
 // The area, the record's bytes, none where there is none, and the numbers that the two ends ended with.
-#[derive(Drop)]
+#[derive(Clone, Copy)]
 pub struct Saved {
     pub area: [u8; 320],
     pub bytes: [u8; 81],
@@ -20,7 +20,7 @@ pub struct Saved {
 }
 
 // What stands on the link between two turns, and what it brought.
-#[derive(Drop)]
+#[derive(Clone, Copy)]
 pub struct Link {
     pub area: [u8; 320],
     // What the sender sent last, and what the receiver answered last: the first bytes.

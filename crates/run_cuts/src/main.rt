@@ -9,6 +9,8 @@
 //
 // Then sends files made of `SP\-` and of the stop frame by #BIN#, at every block from 1 to 12. A line for each block has the frames of the
 // file, and says whether it came whole.
+#![tactic(auto)]
+
 ghost use Rattle.std.specs.Prelude.{◌≤◌};
 
 use bin_link::Readings;
@@ -24,7 +26,7 @@ mod yapp_link;
 const ALL: usize = 1_000_000;
 
 // How a session goes.
-#[derive(Drop)]
+#[derive(Clone, Copy)]
 enum Protocol {
     Yapp,
     YappC,
@@ -69,7 +71,7 @@ fn show(at: usize, s: Saved) {
 }
 
 // What came of a cut: what its record told, and whether all was whole.
-#[derive(Drop)]
+#[derive(Clone, Copy)]
 struct Cut {
     told: usize,
     whole: bool,

@@ -12,7 +12,7 @@ use yapp_receiver::{Receiver, ReceiverAnswer};
 use yapp_sender::{Sender, SenderAnswer};
 
 // What stands between two turns.
-#[derive(Drop)]
+#[derive(Clone, Copy)]
 struct Ends {
     sender: Sender,
     receiver: Receiver,

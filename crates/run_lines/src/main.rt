@@ -1,4 +1,6 @@
 // Reads frames and prints what each says: document 01's examples, malformed lines and OKs, and every beginning of a line.
+#![tactic(auto)]
+
 use calls::Outcome;
 use fields::Place;
 use lines::{Frame, Kept, Line, line_reader};

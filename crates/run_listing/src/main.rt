@@ -1,4 +1,6 @@
 // Lists built-in captures, one after the other, each below a title and handed over in chunks of 7 bytes.
+#![tactic(auto)]
+
 ghost use Rattle.std.specs.Prelude.{◌≤◌, ◌<◌};
 
 use listing::Lister;

@@ -1,5 +1,7 @@
 // Writes packets, with and without a form, and hands back the data of packets at the front of a capture. One line a case: the first 16 bytes
 // that were written, or 20 or 22, and how far the reply buffer is no longer what it was; or the data.
+#![tactic(auto)]
+
 use calls::outcomes;
 use fields::{Fault, Flaw, Place, Stamp, Written};
 use packets::{Block, Header, Packet, Resume, packet_reader};

@@ -1,5 +1,7 @@
 // Writes and reads saved records: document 01's example, records within and outside the limits, malformed ones, and every
 // beginning of one. One line a case: what was written, or 20 or 22; what was read, or 1.
+#![tactic(auto)]
+
 use calls::outcomes;
 use fields::{Stamp, Written};
 use records::{Record, RecordRead, record_reader, record_writer};

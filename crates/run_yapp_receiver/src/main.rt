@@ -11,6 +11,8 @@
 //
 // In a record and bytes `<0D>` is the byte 0D. Any other line is a title.
 // A line has at most 1200 bytes, a script 16384: a longer one is not played, and a line says so.
+#![tactic(auto)]
+
 use calls::Status;
 use libc::STDIN_FILENO;
 use script::printing::{
@@ -20,7 +22,7 @@ use script::reading::{before, behind, decode, is_word, number, place_in, playabl
 use yapp::ReceiverState;
 use yapp_receiver::{Receiver, ReceiverAnswer};
 
-#[derive(Drop)]
+#[derive(Clone, Copy)]
 struct Play {
     receiver: Receiver,
     area: [u8; 320],

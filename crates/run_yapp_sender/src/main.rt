@@ -9,6 +9,8 @@
 // In a name, a file and bytes `<0D>` is the byte 0D. Any other line is a title. S is followed by how many timeouts came since SI was sent, `-`
 // where it was not.
 // A line has at most 1200 bytes, a script 16384: a longer one is not played, and a line says so.
+#![tactic(auto)]
+
 use calls::Status;
 use fields::Stamp;
 use libc::STDIN_FILENO;

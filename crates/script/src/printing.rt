@@ -72,7 +72,7 @@ pub fn put_hex(s: &[u8])
 }
 
 // Where the first byte stands that differs, and the index behind the last; both are 0 where none does.
-#[derive(Drop)]
+#[derive(Clone, Copy)]
 struct Change {
     from: usize,
     to: usize,

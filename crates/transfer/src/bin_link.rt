@@ -9,7 +9,7 @@ use bin_receiver::Receiver;
 use bin_sender::{Sender, SenderAnswer};
 use crc::Reading;
 
-#[derive(Drop)]
+#[derive(Clone, Copy)]
 struct Ends {
     sender: Sender,
     receiver: Receiver,

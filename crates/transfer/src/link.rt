@@ -5,7 +5,7 @@ ghost use Rattle.transfer.specs.Link.{nothing as nothing_of, whole as whole_of, 
 
 use crate::text;
 
-#[derive(Drop)]
+#[derive(Clone, Copy)]
 pub struct Link {
     pub left: usize,
     pub broken: bool,
@@ -20,7 +20,7 @@ pub struct Link {
 pub const STAMP: u32 = 0x5B6E_A3C0;
 
 // What a session leaves: the bytes of its record, how many they are, and whether the receiver ended with success.
-#[derive(Drop)]
+#[derive(Clone, Copy)]
 pub struct Saved {
     pub bytes: [u8; 81],
     pub count: usize,

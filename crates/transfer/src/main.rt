@@ -2,6 +2,8 @@
 // seed picks, and the transfer is resumed from the receiver's record by either protocol until the file is whole.
 //
 //     transfer [PATH [SEED]]
+#![tactic(auto)]
+
 ghost use Rattle.std.specs.Prelude.{◌≡◌, length};
 
 use fields::names;
@@ -30,7 +32,7 @@ const YAPPC: usize = 1;
 const BIN: usize = 2;
 
 // How many bytes of the buffer a file filled.
-#[derive(Drop)]
+#[derive(Clone, Copy)]
 enum FileRead {
     Bytes(usize),
     // What failed is said already.

@@ -9,7 +9,7 @@ use fields::Stamp;
 use yapp_receiver::Receiver;
 use yapp_sender::{Sender, SenderAnswer};
 
-#[derive(Drop)]
+#[derive(Clone, Copy)]
 struct Ends {
     sender: Sender,
     receiver: Receiver,

@@ -23,7 +23,7 @@ use Rattle.bin_sender.specs.Sender as sender
 use Rattle.bin_receiver.specs.Receiver as receiver
 use Rattle.transfers.specs.MachinesBin.{cut, sender_transmits, transmit, receiver_takes, receive}
 use Rattle.transfers.specs.World.{World, Left, Act, transmit_s, timeout_s, cancel_s, transmit_r, timeout_r, cancel_r, receive_s, receive_r, Call, Calm, NoStop}
-use Rattle.transfers.specs.Bin.{Settings, Config, begins, joins, front, behind_front, checked, made, step_by, runs, Fair, refused, Fairly, Calmly, Quiet, work_of, work_in, work, ComesToEnd}
+use Rattle.transfers.specs.Bin.{Settings, Config, begins, joins, front, behind_front, checked, made, step, step_by, runs, Fair, Fairly, Calmly, Quiet, work_of, work_in, work, ComesToEnd}
 use Rattle.transfers.proofs.Calls.{by-check, by-fair}
 use Rattle.transfers.proofs.Stored.{Between}
 use Rattle.transfers.proofs.BinFrames.{cuts, sent_to, sent-one, line-said}
@@ -132,8 +132,8 @@ module _ (w : World) (t : Settings) where
   -- all calls together do no more than is to do at first
   bound : {c : Config} → Holds w t true c → (ks : List Call) → Fairly w ks c → Calmly w ks c → work w ks c ≤ to_do c
   bound h [] f q = omega arith
-  bound h (k ∷ ks) f q =
-      omega (arith, spends h k.act k.reply k.lent k.handed f.0 q.0, bound (calm_step w t k h f.0 q.0) ks f.1 q.1)
+  bound {c = c} h (k ∷ ks) f q =
+      omega (arith, spends h k.act k.reply k.lent k.handed f.0 q.0, bound {c = step w k c} (calm_step w t k h f.0 q.0) ks f.1 q.1)
 
   -- ---- quiet_then
 

@@ -37,7 +37,7 @@ use Rattle.bin_sender.specs.Sender as sender
 use Rattle.bin_receiver.specs.Receiver as receiver
 use Rattle.calls.specs.Saving.{form_by}
 use Rattle.transfers.specs.MachinesBin.{sender_transmits, transmit, fresh, resume, receiver_takes, receive}
-use Rattle.transfers.specs.World.{World, Left, Act, transmit_s, timeout_s, cancel_s, transmit_r, timeout_r, cancel_r, receive_s, receive_r, Call, lent_or, ours, saved_bytes, laid_by, Calm, NoStop}
+use Rattle.transfers.specs.World.{World, Left, Act, transmit_s, timeout_s, cancel_s, transmit_r, timeout_r, cancel_r, receive_s, receive_r, Call, lent_or, saved_bytes, laid_by, Calm, NoStop}
 use Rattle.transfers.specs.Bin.{Settings, Config, receiver_by, begins, front, behind_front, accepted_by, file_in, step_s, step_r, ended_at, checked, Made, by_sender, by_receiver, made, step_by, step, runs, Fair, own, refused, Fairly, Calmly, Quiet, Complete, work_of, status_in, Serves, leaves}
 use Rattle.transfers.proofs.Calls.{sent_is, lent_back}
 use Rattle.transfers.proofs.Stored.{Ours, Stored, Between, lays-none, ours-form, ours-back, name_back, saved-back, name-room, name-short}

@@ -44,7 +44,7 @@ use Rattle.yapp_sender.specs.Sender.{SenderAfter, settings_of, replied, arrived,
 use Rattle.calls.specs.Saving.{form_by}
 use Rattle.yapp_receiver.specs.Receiver.{ReceiverAfter, settings_of as settings_r, now_of, replied as replied_r, refused_call as refused_r, status_of as status_r, unless_refused as unless_r, receiver_with, fresh, with_saved, resume_by, resume}
 use Rattle.transfers.specs.MachinesYapp.{receiver_takes, receive as receive_r', transmit as transmit_r', timeout as timeout_r', cancel as cancel_r'}
-use Rattle.transfers.specs.World.{World, Left, Act, transmit_s, timeout_s, cancel_s, transmit_r, timeout_r, cancel_r, receive_s, receive_r, at_sender, Call, lent_or, ours, saved_bytes, laid_by, Calm, NoStop}
+use Rattle.transfers.specs.World.{World, Left, Act, transmit_s, timeout_s, cancel_s, transmit_r, timeout_r, cancel_r, receive_s, receive_r, at_sender, Call, lent_or, saved_bytes, laid_by, Calm, NoStop}
 use Rattle.transfers.specs.Yapp.{Settings, Watch, Config, receiver_by, begins, data_in, came_by, packet_sent, OnePacket, seen, step_s, step_r, ended_at, own_at, given_to, checked, Made, by_sender, by_receiver, made, step_by, step, runs, Fair, own, refused, Fairly, Calmly, Quiet, Complete, work_of, status_in, Observed, Serves, leaves}
 use Rattle.transfers.proofs.Calls.{sent_is, lent_back}
 use Rattle.transfers.proofs.Stored.{Ours, Stored, Between, lays-none, ours-bytes, ours-back, name_back, saved-back, name-room, name-short}

@@ -1,9 +1,11 @@
 // YAPP and YappC: the states of sender and receiver, and what they do.
+#![tactic(auto)]
+
 use calls::Outcome;
 
 pub mod table;
 
-#[derive(Drop)]
+#[derive(Clone, Copy)]
 pub enum SenderState {
     // Whether SI was sent, and how many timeouts came since.
     S { begun: bool, timeouts: u8 },
@@ -16,7 +18,7 @@ pub enum SenderState {
     Ended { outcome: Outcome },
 }
 
-#[derive(Drop)]
+#[derive(Clone, Copy)]
 pub enum ReceiverState {
     R,
     // Whether a file was received.

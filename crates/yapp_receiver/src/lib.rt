@@ -1,4 +1,6 @@
 // The YAPP receiver.
+#![tactic(auto)]
+
 ghost use Rattle.std.specs.Prelude.{◌≡◌, List, length, ℕ, ◌≤◌};
 ghost use Rattle.std.proofs.Math.Option.{none};
 ghost use Rattle.records.specs.Saved.{saved_of};
@@ -22,7 +24,7 @@ mod header;
 mod output;
 mod step;
 
-#[derive(Drop)]
+#[derive(Clone, Copy)]
 pub struct Receiver {
     reader: Reader,
     // The bytes of the record's name, at the front.
@@ -30,7 +32,7 @@ pub struct Receiver {
     core: ReceiverCore,
 }
 
-#[derive(Drop)]
+#[derive(Clone, Copy)]
 pub struct ReceiverAnswer {
     pub receiver: Receiver,
     pub status: Status,

@@ -9,7 +9,7 @@ use fields::Place;
 use yapp::ReceiverState;
 
 // What is sent.
-#[derive(Drop)]
+#[derive(Clone, Copy)]
 pub enum Out {
     Nothing,
     RR,
@@ -30,7 +30,7 @@ pub enum Out {
 }
 
 // A receiver without its buffers.
-#[derive(Drop)]
+#[derive(Clone, Copy)]
 pub struct ReceiverCore {
     pub state: ReceiverState,
     // The length of the area, document 01's file area.
@@ -42,7 +42,7 @@ pub struct ReceiverCore {
 }
 
 // What is to be done.
-#[derive(Drop)]
+#[derive(Clone, Copy)]
 pub struct Step {
     pub state: ReceiverState,
     // Whether the receiver is in YappC.

@@ -1,20 +1,18 @@
 -- What the calls leave, from what a step leaves. Assumes nothing.
 use mathlib.Core.Path.{◌≡◌, refl, ap, sym, ◌∙◌}
 use mathlib.Core.Bool.{Bool, true, false}
-use mathlib.Core.List.{List, [], ◌∷◌}
+use mathlib.Core.List.{List}
 use Prim.Native.Nat.{ℕ}
-use types.Run.{OneOf, miss}
-use denote.Enum.Declared.{tag_of}
 use Rattle.fields.specs.Lists.{nowhere}
 use Rattle.fields.specs.declared.Place.{Place}
 use Rattle.packet_stream.specs.declared.Received.{Received}
 use Rattle.packet_stream.specs.Reader.{receive as reads}
+use Rattle.calls.specs.declared.Outcome.{Outcome}
 use Rattle.calls.specs.declared.Status.{Status}
 use Rattle.calls.specs.Checks.{is_taken}
 use Rattle.calls.proofs.Laws.{unless-taken, unless-refused}
 use Rattle.yapp.specs.declared.SenderState.{SenderState}
 use Rattle.yapp.specs.declared.SenderState.TheVariants.{S, SH, SD, SE, ST, CW, Ended}
-use Rattle.yapp.specs.contracts.SenderState.{the_type}
 use Rattle.yapp.specs.Steps.{SenderMove, sender_takes, sender_ended}
 use Rattle.yapp_sender.specs.declared.step.Event.{Event}
 use Rattle.yapp_sender.specs.declared.step.Event.TheVariants.{Transmit, Timeout, Cancel}
@@ -22,14 +20,14 @@ use Rattle.yapp_sender.specs.declared.Sender.{Sender}
 use Rattle.yapp_sender.specs.Sender.{SenderAfter, settings_of, refused_call, replied, status_of, heard, shown_in, arrived, transmit, receive, timeout, cancel}
 use Rattle.yapp_sender.specs.Events.{move_by, after_by}
 
-pub not-ended : (s : SenderState) → OneOf (0 ∷ 1 ∷ 2 ∷ 3 ∷ 4 ∷ 5 ∷ []) (tag_of the_type s) → false ≡ sender_ended s
+pub not-ended : (s : SenderState) → ((o : Outcome) → s ≡ Ended o → ⊥) → false ≡ sender_ended s
 not-ended (S begun timeouts) k = refl
 not-ended SH k = refl
 not-ended (SD n) k = refl
 not-ended SE k = refl
 not-ended ST k = refl
 not-ended (CW o) k = refl
-not-ended (Ended o) k = absurd (miss (0 ∷ 1 ∷ 2 ∷ 3 ∷ 4 ∷ 5 ∷ []) 6 tt k)
+not-ended (Ended o) k = absurd (k o refl)
 
 module _ (m : Sender) (file reply : List ℕ) where
   -- the code read g in the mode k, made of it the place p and the move w, and left x

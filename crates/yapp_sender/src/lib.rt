@@ -1,4 +1,6 @@
 // The YAPP sender.
+#![tactic(auto)]
+
 ghost use Rattle.std.specs.Prelude.{◌≡◌, List, ℕ, ◌≤◌, length};
 ghost use Rattle.calls.specs.Checks.{check_of};
 ghost use Rattle.yapp.specs.Steps.{sender_ended};
@@ -17,7 +19,7 @@ mod events;
 mod output;
 mod step;
 
-#[derive(Drop)]
+#[derive(Clone, Copy)]
 pub struct Sender {
     reader: Reader,
     // The file's name at the front.
@@ -25,7 +27,7 @@ pub struct Sender {
     core: SenderCore,
 }
 
-#[derive(Drop)]
+#[derive(Clone, Copy)]
 pub struct SenderAnswer {
     pub sender: Sender,
     pub status: Status,

@@ -10,7 +10,7 @@ use fields::{Place, Stamp};
 use packets::Packet;
 use yapp::SenderState;
 
-#[derive(Drop)]
+#[derive(Clone, Copy)]
 pub struct SenderCore {
     pub state: SenderState,
     // How long the name is.
@@ -24,7 +24,7 @@ pub struct SenderCore {
 }
 
 // What the host brings besides bytes: a chance to send (document 01's leave), the timer, the operator's stop.
-#[derive(Drop)]
+#[derive(Clone, Copy)]
 pub enum Event {
     Transmit,
     Timeout,
@@ -32,7 +32,7 @@ pub enum Event {
 }
 
 // What is to be sent.
-#[derive(Drop)]
+#[derive(Clone, Copy)]
 pub enum Out {
     Nothing,
     HD,
@@ -43,7 +43,7 @@ pub enum Out {
 }
 
 // What a call does: the state after it, whether it is in YappC then, and what is sent.
-#[derive(Drop)]
+#[derive(Clone, Copy)]
 pub struct Step {
     pub state: SenderState,
     pub checked: bool,

@@ -1,17 +1,15 @@
 -- Tests together, how long a frame for display is, and the states that are not the end. Assumes nothing.
 use mathlib.Core.Path.{◌≡◌, refl, ap, ◌∙◌}
 use mathlib.Core.Bool.{Bool, true, false, ◌&&◌}
-use mathlib.Core.List.{List, [], ◌∷◌}
+use mathlib.Core.List.{List}
 use Prim.Native.Nat.{ℕ, ◌≤◌}
 use native.Mathlib.Omega.{arith}
 use lib.ListN.{length, take, length-take}
-use types.Run.{OneOf, miss}
-use denote.Enum.Declared.{tag_of}
 use Rattle.fields.proofs.Lists.{same-eq}
 use Rattle.lines.specs.Frame.{starts, display_mark}
+use Rattle.calls.specs.declared.Outcome.{Outcome}
 use Rattle.bin.specs.declared.ReceiverState.{ReceiverState}
 use Rattle.bin.specs.declared.ReceiverState.TheVariants.{Waiting, Basic, Extended, Ended}
-use Rattle.bin.specs.contracts.ReceiverState.{the_type}
 use Rattle.bin.specs.Steps.{receiver_ended}
 
 pub and_both : (a b : Bool) → a ≡ true → b ≡ true → (a && b) ≡ true
@@ -29,9 +27,9 @@ pub display-long : (f : List ℕ) → starts display_mark f ≡ true → 4 ≤ l
 unfolding starts
 display-long f h = let e : 4 ≡ length (take 4 f) = ap length (same-eq display_mark (take 4 f) h) in omega (arith, e ∙ length-take 4 f)
 
--- by the numbers of the variants that are left
-pub not-ended : (s : ReceiverState) → OneOf (0 ∷ 1 ∷ 2 ∷ []) (tag_of the_type s) → false ≡ receiver_ended s
-not-ended Waiting k = refl
-not-ended (Basic size kept) k = refl
-not-ended (Extended crc) k = refl
-not-ended (Ended o) k = absurd (miss (0 ∷ 1 ∷ 2 ∷ []) 3 tt k)
+-- any state but the end
+pub not-ended : (s : ReceiverState) → ((o : Outcome) → s ≡ Ended o → ⊥) → false ≡ receiver_ended s
+not-ended Waiting h = refl
+not-ended (Basic size kept) h = refl
+not-ended (Extended crc) h = refl
+not-ended (Ended o) h = absurd (h o refl)

@@ -1,18 +1,17 @@
 -- A line is judged, one law for each case. Assumes nothing.
 use mathlib.Core.Path.{◌≡◌, refl, ap, sym, ◌∙◌}
 use mathlib.Core.Bool.{Bool, true, false, ◌&&◌}
-use mathlib.Core.List.{List, [], ◌∷◌}
+use mathlib.Core.List.{List, []}
 use mathlib.Core.Option.{Option, some}
 use Prim.Native.Nat.{ℕ, ◌<◌, ◌≤◌}
 use lib.ListN.{take}
 use borrow.Author.Tests.{le-leb, lt-leb}
-use types.Run.{OneOf, miss}
-use denote.Enum.Declared.{tag_of}
+use Rattle.fields.specs.declared.Fault.{Fault}
 use Rattle.fields.specs.declared.Stamp.TheVariants.{Present}
 use Rattle.crc.specs.Crc.{crc_by}
 use Rattle.lines.specs.declared.Frame.{Frame}
 use Rattle.lines.specs.declared.Frame.TheVariants.{Basic, Extended, MalformedLine, OK, OKName, OKKept, MalformedOK, NO, Stop, Display, Other}
-use Rattle.lines.specs.contracts.Frame.{the_type}
+use Rattle.lines.specs.declared.Line.{Line}
 use Rattle.lines.specs.Frame.{frame_of}
 use Rattle.lines.specs.Element.{ok_kept, content_of}
 use Rattle.records.specs.Saved.{Saved}
@@ -74,23 +73,22 @@ module _ (t : ReceiverSettings) (a : List ℕ) where
     unfolding heard
     hears-as y e = ap (λ (z : Frame). receiver_hears t v a (content_of f z)) (sym q ∙ e)
 
-    -- by the numbers of the variants that are no lines
-    abbrev lineless : List ℕ
-    lineless = 3 ∷ 4 ∷ 5 ∷ 6 ∷ 7 ∷ 8 ∷ 9 ∷ 10 ∷ []
-
-    ignored : (y : Frame) → OneOf lineless (tag_of the_type y) → receiver_hears t v a (content_of f y) ≡ answers Waiting v a [] 0
+    -- any frame that is no line
+    ignored : (y : Frame) → ((n : ℕ) → y ≡ Basic n → ⊥) → ((l : Line) → y ≡ Extended l → ⊥) → ((w : Fault) → y ≡ MalformedLine w → ⊥)
+        → receiver_hears t v a (content_of f y) ≡ answers Waiting v a [] 0
     unfolding receiver_hears content_of
-    ignored (Basic size) h = absurd (miss lineless 0 tt h)
-    ignored (Extended l) h = absurd (miss lineless 1 tt h)
-    ignored (MalformedLine w) h = absurd (miss lineless 2 tt h)
-    ignored OK h = refl
-    ignored (OKName p) h = refl
-    ignored (OKKept p) h = refl
-    ignored (MalformedOK w) h = refl
-    ignored (NO p) h = refl
-    ignored Stop h = refl
-    ignored (Display p) h = refl
-    ignored Other h = refl
+    ignored (Basic size) b e m = absurd (b size refl)
+    ignored (Extended l) b e m = absurd (e l refl)
+    ignored (MalformedLine w) b e m = absurd (m w refl)
+    ignored OK b e m = refl
+    ignored (OKName p) b e m = refl
+    ignored (OKKept p) b e m = refl
+    ignored (MalformedOK w) b e m = refl
+    ignored (NO p) b e m = refl
+    ignored Stop b e m = refl
+    ignored (Display p) b e m = refl
+    ignored Other b e m = refl
 
-    pub hears-other : OneOf lineless (tag_of the_type x) → receiver_hears t v a (heard f) ≡ answers Waiting v a [] 0
-    hears-other h = hears-as x refl ∙ ignored x h
+    pub hears-other : ((n : ℕ) → x ≡ Basic n → ⊥) → ((l : Line) → x ≡ Extended l → ⊥) → ((w : Fault) → x ≡ MalformedLine w → ⊥)
+        → receiver_hears t v a (heard f) ≡ answers Waiting v a [] 0
+    hears-other b e m = hears-as x refl ∙ ignored x b e m

@@ -2,20 +2,21 @@
 use mathlib.Core.Path.{◌≡◌, refl, sym, ap, ◌∙◌}
 use mathlib.Core.Bool.{Bool, true, false}
 use mathlib.Core.List.{List, [], ◌∷◌}
+use mathlib.Core.Logic.{◌⊎◌, inl, inr}
 use Prim.Native.Nat.{ℕ}
-use types.Run.{OneOf, miss}
-use denote.Enum.Declared.{tag_of}
 use native.Mathlib.Omega.{arith}
 use Rattle.fields.specs.Lists.{same}
 use Rattle.lines.specs.Frame.{starts, stop_frame, frame_of}
 use Rattle.lines.specs.Element.{content_of}
+use Rattle.fields.specs.declared.Fault.{Fault}
+use Rattle.fields.specs.declared.Place.{Place}
+use Rattle.lines.specs.declared.Line.{Line}
 use Rattle.lines.specs.declared.Frame.{Frame}
-use Rattle.lines.specs.declared.Frame.TheVariants.{Basic, Extended, MalformedLine, OK, OKName, OKKept, MalformedOK, NO, Stop as StopFrame, Display, Other}
-use Rattle.lines.specs.contracts.Frame.{the_type as frame-type}
+use Rattle.lines.specs.declared.Frame.TheVariants.{Basic, Extended, MalformedLine, OK, OKName, Display, Other}
+use Rattle.calls.specs.declared.Outcome.{Outcome}
 use Rattle.calls.specs.declared.Outcome.TheVariants.{Cancelled}
 use Rattle.bin.specs.declared.SenderState.{SenderState}
 use Rattle.bin.specs.declared.SenderState.TheVariants.{Start, Wait, Send, Ended}
-use Rattle.bin.specs.contracts.SenderState.{the_type}
 use Rattle.bin.specs.Steps.{heard, goes, sends_from, sender_hears, sender_sends, sender_takes}
 use Rattle.bin_sender.specs.declared.Sender.{Sender}
 use Rattle.bin_sender.specs.declared.step.Step.{Step}
@@ -31,33 +32,19 @@ module _ (m : Sender) (file : List ℕ) where
     unfolding heard
     hears-by h t e q w = w ∙ ap (λ (x : Frame). sender_hears (settings_of m) file (content_of frame x)) (sym q ∙ e)
 
-    pub hears-first : (g : Frame) → OneOf (3 ∷ 4 ∷ []) (tag_of frame-type g) → goes (sends_from file 0) [] ≡ sender_hears (settings_of m) file (content_of frame g)
+    pub hears-first : (g : Frame) → (g ≡ OK) ⊎ ((p : Place) × (g ≡ OKName p)) → goes (sends_from file 0) [] ≡ sender_hears (settings_of m) file (content_of frame g)
     unfolding sender_hears content_of
-    hears-first (Basic n) k = absurd (miss (3 ∷ 4 ∷ []) 0 tt k)
-    hears-first (Extended l) k = absurd (miss (3 ∷ 4 ∷ []) 1 tt k)
-    hears-first (MalformedLine w) k = absurd (miss (3 ∷ 4 ∷ []) 2 tt k)
-    hears-first OK k = refl
-    hears-first (OKName p) k = refl
-    hears-first (OKKept x) k = absurd (miss (3 ∷ 4 ∷ []) 5 tt k)
-    hears-first (MalformedOK w) k = absurd (miss (3 ∷ 4 ∷ []) 6 tt k)
-    hears-first (NO p) k = absurd (miss (3 ∷ 4 ∷ []) 7 tt k)
-    hears-first StopFrame k = absurd (miss (3 ∷ 4 ∷ []) 8 tt k)
-    hears-first (Display p) k = absurd (miss (3 ∷ 4 ∷ []) 9 tt k)
-    hears-first Other k = absurd (miss (3 ∷ 4 ∷ []) 10 tt k)
+    hears-first g (inl e) = rw e
+    hears-first g (inr (p, e)) = rw e
 
-    pub hears-none : (g : Frame) → OneOf (0 ∷ 1 ∷ 2 ∷ 9 ∷ 10 ∷ []) (tag_of frame-type g) → goes Wait [] ≡ sender_hears (settings_of m) file (content_of frame g)
+    pub hears-none : (g : Frame) → ((n : ℕ) × (g ≡ Basic n)) ⊎ ((l : Line) × (g ≡ Extended l)) ⊎ ((w : Fault) × (g ≡ MalformedLine w)) ⊎ ((p : Place) × (g ≡ Display p)) ⊎ (g ≡ Other)
+        → goes Wait [] ≡ sender_hears (settings_of m) file (content_of frame g)
     unfolding sender_hears content_of
-    hears-none (Basic n) k = refl
-    hears-none (Extended l) k = refl
-    hears-none (MalformedLine w) k = refl
-    hears-none OK k = absurd (miss (0 ∷ 1 ∷ 2 ∷ 9 ∷ 10 ∷ []) 3 tt k)
-    hears-none (OKName p) k = absurd (miss (0 ∷ 1 ∷ 2 ∷ 9 ∷ 10 ∷ []) 4 tt k)
-    hears-none (OKKept x) k = absurd (miss (0 ∷ 1 ∷ 2 ∷ 9 ∷ 10 ∷ []) 5 tt k)
-    hears-none (MalformedOK w) k = absurd (miss (0 ∷ 1 ∷ 2 ∷ 9 ∷ 10 ∷ []) 6 tt k)
-    hears-none (NO p) k = absurd (miss (0 ∷ 1 ∷ 2 ∷ 9 ∷ 10 ∷ []) 7 tt k)
-    hears-none StopFrame k = absurd (miss (0 ∷ 1 ∷ 2 ∷ 9 ∷ 10 ∷ []) 8 tt k)
-    hears-none (Display p) k = refl
-    hears-none Other k = refl
+    hears-none g (inl (n, e)) = rw e
+    hears-none g (inr (inl (l, e))) = rw e
+    hears-none g (inr (inr (inl (w, e)))) = rw e
+    hears-none g (inr (inr (inr (inl (p, e))))) = rw e
+    hears-none g (inr (inr (inr (inr e)))) = rw e
 
   -- ---- whatever the state: an empty frame is no stop frame, and says nothing
 
@@ -79,11 +66,9 @@ module _ (m : Sender) (file : List ℕ) where
       takes-more [] q h = refl
       takes-more (x ∷ f) q h = let d : same stop_frame (x ∷ f) ≡ false = sym q ∙ h in rw (e, d)
 
-  pub takes_none : (st : SenderState) (f : List ℕ) → OneOf (0 ∷ 3 ∷ []) (tag_of the_type st) → goes st [] ≡ sender_takes (settings_of m) file st f
+  pub takes_none : (st : SenderState) (f : List ℕ) → (st ≡ Start) ⊎ ((o : Outcome) × (st ≡ Ended o)) → goes st [] ≡ sender_takes (settings_of m) file st f
   unfolding sender_takes
-  takes_none Start [] k = refl
-  takes_none Start (x ∷ f) k = refl
-  takes_none Wait f k = absurd (miss (0 ∷ 3 ∷ []) 1 tt k)
-  takes_none (Send n) f k = absurd (miss (0 ∷ 3 ∷ []) 2 tt k)
-  takes_none (Ended o) [] k = refl
-  takes_none (Ended o) (x ∷ f) k = refl
+  takes_none st [] (inl e) = rw e
+  takes_none st (x ∷ f) (inl e) = rw e
+  takes_none st [] (inr (o, e)) = rw e
+  takes_none st (x ∷ f) (inr (o, e)) = rw e

@@ -1,14 +1,13 @@
 -- What a leave does, one law for each case, and which state is the end. Assumes nothing.
 use mathlib.Core.Path.{◌≡◌, refl, ap, ◌∙◌}
 use mathlib.Core.Bool.{false}
-use mathlib.Core.List.{List, [], ◌∷◌}
+use mathlib.Core.List.{List, []}
+use mathlib.Core.Logic.{◌⊎◌, inl, inr}
 use Prim.Native.Nat.{ℕ, ◌+◌}
-use types.Run.{OneOf, miss}
-use denote.Enum.Declared.{tag_of}
 use lib.ListN.{length, drop}
+use Rattle.calls.specs.declared.Outcome.{Outcome}
 use Rattle.bin.specs.declared.SenderState.{SenderState}
 use Rattle.bin.specs.declared.SenderState.TheVariants.{Start, Wait, Send, Ended}
-use Rattle.bin.specs.contracts.SenderState.{the_type}
 use Rattle.bin.specs.Steps.{SenderMove, cut, goes, sends_from, sender_transmits, sender_ended}
 use Rattle.bin_sender.specs.declared.Sender.{Sender}
 use Rattle.bin_sender.specs.declared.step.Out.TheVariants.{Nothing, Line, Data}
@@ -31,15 +30,13 @@ module _ (m : Sender) (file : List ℕ) where
     unfolding sender_transmits
     transmits-data r n frame e f q = rw (e, q, f)
 
-  pub transmits-none : (st : SenderState) → OneOf (1 ∷ 3 ∷ []) (tag_of the_type st) → goes st [] ≡ sender_transmits (settings_of m) file st
+  pub transmits-none : (st : SenderState) → (st ≡ Wait) ⊎ ((o : Outcome) × (st ≡ Ended o)) → goes st [] ≡ sender_transmits (settings_of m) file st
   unfolding sender_transmits
-  transmits-none Start k = absurd (miss (1 ∷ 3 ∷ []) 0 tt k)
-  transmits-none Wait k = refl
-  transmits-none (Send n) k = absurd (miss (1 ∷ 3 ∷ []) 2 tt k)
-  transmits-none (Ended o) k = refl
+  transmits-none st (inl e) = rw e
+  transmits-none st (inr (o, e)) = rw e
 
-pub not-ended : (st : SenderState) → OneOf (0 ∷ 1 ∷ 2 ∷ []) (tag_of the_type st) → false ≡ sender_ended st
+pub not-ended : (st : SenderState) → ((o : Outcome) → st ≡ Ended o → ⊥) → false ≡ sender_ended st
 not-ended Start k = refl
 not-ended Wait k = refl
 not-ended (Send n) k = refl
-not-ended (Ended o) k = absurd (miss (0 ∷ 1 ∷ 2 ∷ []) 3 tt k)
+not-ended (Ended o) k = absurd (k o refl)

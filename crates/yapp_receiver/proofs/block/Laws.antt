@@ -6,8 +6,6 @@ use Prim.Native.Nat.{ℕ, ◌+◌}
 use lib.Dec.{leb}
 use lib.ListN.{length}
 use borrow.Author.Tests.{eq-eqb, ne_eqb}
-use types.Run.{OneOf, miss}
-use denote.Enum.Declared.{tag_of}
 use Rattle.fields.specs.Lists.{bytes_at, nowhere}
 use Rattle.fields.specs.Buffer.{appended}
 use Rattle.packets.specs.Content.{af, content_of}
@@ -15,7 +13,6 @@ use Rattle.packets.specs.Data.{on_block}
 use Rattle.packets.specs.declared.Block.{Block}
 use Rattle.packets.specs.declared.Packet.{Packet}
 use Rattle.packets.specs.declared.Packet.TheVariants.{RR, RF, AF, AT, CA, RT, SI, RI, HD, Malformed, DT, EF, ET, NR, RE, CN, TX, Dropped, Open}
-use Rattle.packets.specs.contracts.Packet.{the_type}
 use Rattle.calls.specs.declared.Keeping.{Keeping}
 use Rattle.calls.specs.declared.Keeping.TheVariants.{Nothing, Of}
 use Rattle.calls.specs.declared.Outcome.TheVariants.{CheckFailed, PastSize, Short}
@@ -40,10 +37,7 @@ module _ (n : ReceiverNow) (a : List ℕ) where
   ends-short h = rw (ne_eqb (kept_of n.saved) (size_of n.saved) h)
 
 -- every packet but DT
-abbrev blockless : List ℕ
-blockless = 0 ∷ 1 ∷ 2 ∷ 3 ∷ 4 ∷ 5 ∷ 6 ∷ 7 ∷ 8 ∷ 9 ∷ 11 ∷ 12 ∷ 13 ∷ 14 ∷ 15 ∷ 16 ∷ 17 ∷ 18 ∷ []
-
-pub no_block : {A : Type 0} (s : List ℕ) (f : List ℕ → Bool → A) (other : A) (p : Packet) → OneOf blockless (tag_of the_type p)
+pub no_block : {A : Type 0} (s : List ℕ) (f : List ℕ → Bool → A) (other : A) (p : Packet) → ((b : Block) → p ≡ DT b → ⊥)
     → on_block (content_of s p) f other ≡ other
 unfolding on_block content_of
 no_block s f other RR h = refl
@@ -56,7 +50,7 @@ no_block s f other SI h = refl
 no_block s f other (RI p) h = refl
 no_block s f other (HD x) h = refl
 no_block s f other (Malformed w) h = refl
-no_block s f other (DT b) h = absurd (miss blockless 10 tt h)
+no_block s f other (DT b) h = absurd (h b refl)
 no_block s f other EF h = refl
 no_block s f other ET h = refl
 no_block s f other (NR p) h = refl

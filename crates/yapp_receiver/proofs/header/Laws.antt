@@ -1,13 +1,12 @@
 -- A header is judged, one law for each case. Assumes nothing.
 use mathlib.Core.Path.{◌≡◌, refl, ap}
 use mathlib.Core.Bool.{true, false, ◌&&◌}
-use mathlib.Core.List.{List, [], ◌∷◌}
+use mathlib.Core.List.{List}
 use mathlib.Core.Option.{Option, none}
 use Prim.Native.Nat.{ℕ, ◌-◌, ◌<◌, ◌≤◌}
 use borrow.Author.Tests.{le-leb, lt-leb}
-use types.Run.{OneOf, miss}
-use denote.Enum.Declared.{tag_of}
 use Rattle.fields.specs.Lists.{bytes_at}
+use Rattle.fields.specs.declared.Fault.{Fault}
 use Rattle.fields.specs.declared.Stamp.{Stamp}
 use Rattle.fields.specs.Stamps.{is_present}
 use Rattle.packets.specs.Content.{rt, rf, re, content_of}
@@ -16,7 +15,6 @@ use Rattle.packets.specs.Data.{on_header, fault_of}
 use Rattle.packets.specs.declared.Header.{Header}
 use Rattle.packets.specs.declared.Packet.{Packet}
 use Rattle.packets.specs.declared.Packet.TheVariants.{RR, RF, AF, AT, CA, RT, SI, RI, HD, Malformed, DT, EF, ET, NR, RE, CN, TX, Dropped, Open}
-use Rattle.packets.specs.contracts.Packet.{the_type}
 use Rattle.calls.specs.declared.Entry.{Entry}
 use Rattle.calls.specs.declared.Keeping.TheVariants.{Of}
 use Rattle.calls.specs.declared.Outcome.TheVariants.{Malformed as MalformedHere, NoRoom, HaveFile, Differs}
@@ -67,10 +65,7 @@ module _ (t : ReceiverSettings) (n : ReceiverNow) (a s : List ℕ) (p : Packet) 
       rw (e, le-leb h.size t.room f) (ap (judge_record t n a (bytes_at s h.name) h.size h.stamp) g)
 
 -- every packet but HD
-abbrev headerless : List ℕ
-headerless = 0 ∷ 1 ∷ 2 ∷ 3 ∷ 4 ∷ 5 ∷ 6 ∷ 7 ∷ 9 ∷ 10 ∷ 11 ∷ 12 ∷ 13 ∷ 14 ∷ 15 ∷ 16 ∷ 17 ∷ 18 ∷ []
-
-pub no_header : {A : Type 0} (s : List ℕ) (f : List ℕ → ℕ → Stamp → A) (other : A) (p : Packet) → OneOf headerless (tag_of the_type p)
+pub no_header : {A : Type 0} (s : List ℕ) (f : List ℕ → ℕ → Stamp → A) (other : A) (p : Packet) → ((x : Header) → p ≡ HD x → ⊥)
     → on_header (content_of s p) f other ≡ other
 unfolding on_header content_of
 no_header s f other RR h = refl
@@ -81,7 +76,7 @@ no_header s f other CA h = refl
 no_header s f other RT h = refl
 no_header s f other SI h = refl
 no_header s f other (RI p) h = refl
-no_header s f other (HD x) h = absurd (miss headerless 8 tt h)
+no_header s f other (HD x) h = absurd (h x refl)
 no_header s f other (Malformed w) h = refl
 no_header s f other (DT b) h = refl
 no_header s f other EF h = refl
@@ -94,10 +89,7 @@ no_header s f other (Dropped n) h = refl
 no_header s f other Open h = refl
 
 -- every packet but a malformed HD
-abbrev faultless : List ℕ
-faultless = 0 ∷ 1 ∷ 2 ∷ 3 ∷ 4 ∷ 5 ∷ 6 ∷ 7 ∷ 8 ∷ 10 ∷ 11 ∷ 12 ∷ 13 ∷ 14 ∷ 15 ∷ 16 ∷ 17 ∷ 18 ∷ []
-
-pub no-fault : (s : List ℕ) (p : Packet) → OneOf faultless (tag_of the_type p) → fault_of (content_of s p) ≡ no_fault
+pub no-fault : (s : List ℕ) (p : Packet) → ((w : Fault) → p ≡ Malformed w → ⊥) → fault_of (content_of s p) ≡ no_fault
 unfolding fault_of content_of
 no-fault s RR h = refl
 no-fault s RF h = refl
@@ -108,7 +100,7 @@ no-fault s RT h = refl
 no-fault s SI h = refl
 no-fault s (RI p) h = refl
 no-fault s (HD x) h = refl
-no-fault s (Malformed w) h = absurd (miss faultless 9 tt h)
+no-fault s (Malformed w) h = absurd (h w refl)
 no-fault s (DT b) h = refl
 no-fault s EF h = refl
 no-fault s ET h = refl

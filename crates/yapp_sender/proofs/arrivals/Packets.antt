@@ -1,39 +1,37 @@
 -- What a packet does by the number of its action, and what is known of a state or a packet by the variants that are left. Assumes nothing.
 use mathlib.Core.Path.{◌≡◌, refl, sym, ap, ◌∙◌}
 use mathlib.Core.Bool.{Bool, false}
-use mathlib.Core.List.{List, [], ◌∷◌}
+use mathlib.Core.List.{List, []}
 use Prim.Native.Nat.{ℕ}
-use types.Run.{OneOf, miss}
-use denote.Enum.Declared.{tag_of}
+use Rattle.calls.specs.declared.Outcome.{Outcome}
 use Rattle.packets.specs.Content.{content_of}
 use Rattle.packets.specs.Kind.{kind_of}
 use Rattle.packets.specs.Data.{on_resume}
 use Rattle.packets.specs.declared.Packet.{Packet}
+use Rattle.packets.specs.declared.Resume.{Resume}
 use Rattle.packets.specs.declared.Packet.TheVariants.{RR, RF, AF, AT, CA, RT, SI, RI, HD, Malformed, DT, EF, ET, NR, RE, CN, TX, Dropped, Open}
-use Rattle.packets.specs.contracts.Packet.{the_type as packet-type}
 use Rattle.packets.proofs.KindLaws.{kind-same}
 use Rattle.yapp.specs.declared.SenderState.{SenderState}
 use Rattle.yapp.specs.declared.SenderState.TheVariants.{S, SH, SD, SE, ST, CW, Ended}
-use Rattle.yapp.specs.contracts.SenderState.{the_type}
 use Rattle.yapp.specs.Rows.{Action, nothing, abort, refused, cancelled, success, end_cw, answers, send_header, start, start_checked, resume, send_trailer, ready, trailer, judge, second, store, eof, sender_row}
 use Rattle.yapp.specs.Table.{action_number}
 use Rattle.yapp.specs.Steps.{SenderSettings, sends, sender_after_cw, sender_does, sender_takes}
 use Rattle.yapp.proofs.Actions.{action-same}
 use Rattle.yapp_sender.specs.Sender.{is_sd}
 
-pub not-cw : (s : SenderState) → OneOf (0 ∷ 1 ∷ 2 ∷ 3 ∷ 4 ∷ 6 ∷ []) (tag_of the_type s) → sender_after_cw s ≡ s
+pub not-cw : (s : SenderState) → ((o : Outcome) → s ≡ CW o → ⊥) → sender_after_cw s ≡ s
 not-cw (S begun timeouts) k = refl
 not-cw SH k = refl
 not-cw (SD n) k = refl
 not-cw SE k = refl
 not-cw ST k = refl
-not-cw (CW o) k = absurd (miss (0 ∷ 1 ∷ 2 ∷ 3 ∷ 4 ∷ 6 ∷ []) 5 tt k)
+not-cw (CW o) k = absurd (k o refl)
 not-cw (Ended o) k = refl
 
-pub not-sd : (s : SenderState) → OneOf (0 ∷ 1 ∷ 3 ∷ 4 ∷ 5 ∷ 6 ∷ []) (tag_of the_type s) → false ≡ is_sd s
+pub not-sd : (s : SenderState) → ((n : ℕ) → s ≡ SD n → ⊥) → false ≡ is_sd s
 not-sd (S begun timeouts) k = refl
 not-sd SH k = refl
-not-sd (SD n) k = absurd (miss (0 ∷ 1 ∷ 3 ∷ 4 ∷ 5 ∷ 6 ∷ []) 2 tt k)
+not-sd (SD n) k = absurd (k n refl)
 not-sd SE k = refl
 not-sd ST k = refl
 not-sd (CW o) k = refl
@@ -41,7 +39,7 @@ not-sd (Ended o) k = refl
 
 -- a packet that is no RE asks for no resume
 pub not-re : {A : Type 0} (bytes : List ℕ) (f : ℕ → Bool → A) (other : A) (p : Packet)
-    → OneOf (0 ∷ 1 ∷ 2 ∷ 3 ∷ 4 ∷ 5 ∷ 6 ∷ 7 ∷ 8 ∷ 9 ∷ 10 ∷ 11 ∷ 12 ∷ 13 ∷ 15 ∷ 16 ∷ 17 ∷ 18 ∷ []) (tag_of packet-type p)
+    → ((r : Resume) → p ≡ RE r → ⊥)
     → other ≡ on_resume (content_of bytes p) f other
 unfolding on_resume content_of
 not-re s f other RR k = refl
@@ -58,7 +56,7 @@ not-re s f other (DT b) k = refl
 not-re s f other EF k = refl
 not-re s f other ET k = refl
 not-re s f other (NR p) k = refl
-not-re s f other (RE r) k = absurd (miss (0 ∷ 1 ∷ 2 ∷ 3 ∷ 4 ∷ 5 ∷ 6 ∷ 7 ∷ 8 ∷ 9 ∷ 10 ∷ 11 ∷ 12 ∷ 13 ∷ 15 ∷ 16 ∷ 17 ∷ 18 ∷ []) 14 tt k)
+not-re s f other (RE r) k = absurd (k r refl)
 not-re s f other (CN p) k = refl
 not-re s f other (TX p) k = refl
 not-re s f other (Dropped n) k = refl

@@ -1,0 +1,33 @@
+-- `append_decimal` lays the digits of a number and a byte over a buffer from an index on.
+-- Assumes nothing.
+use mathlib.Core.Path.{◌≡◌, refl}
+use mathlib.Core.List.{[], ◌∷◌, ◌++◌}
+use Prim.Native.Nat.{◌-◌}
+use native.Mathlib.Omega.{arith}
+use lib.ListN.{length, length-take, length-drop}
+use borrow.Rule.Slice.PartMut.{mid_of}
+use Rattle.fields.proofs.Buffer.{append-part, append-short, count-le}
+use Rattle.numbers.specs.Writing.{decimal}
+use Rattle.numbers.proofs.numerals.append_decimal.Goals as goal
+
+pub overflow_add-result : goal.overflow_add-result
+overflow_add-result c =
+    let a = c.args in
+    let d = a.buf.now in
+    let k = length d - a.at in
+    let call = c.put_decimal-k in
+    let m : length (mid_of a.at k d) ≡ k = simp (length-take, length-drop) (omega arith) in
+    omega (arith, call.ensures.0, count-le (decimal a.n ++ (a.end ∷ [])) (mid_of a.at k d))
+
+pub returns-then-at-buf : goal.returns-then-at-buf
+returns-then-at-buf c =
+    let a = c.args in
+    let d = a.buf.now in
+    let k = length d - a.at in
+    let call = c.put_decimal-k in
+    append-part a.at (decimal a.n ++ (a.end ∷ [])) d k call.result call.new.buf (omega arith) refl call.ensures.0 call.ensures.1
+
+pub returns : goal.returns
+returns c =
+    let a = c.args in
+    append-short a.at (decimal a.n ++ (a.end ∷ [])) a.buf.now (omega arith)
