@@ -3,14 +3,17 @@
 //     list [FILE]
 //
 // Without a file the capture comes on standard input. What fails is said on standard error and ends the work, so a listing that is not whole
-// has no line `end`.
+// has no line `end`. A read or write that fails ends it with 1.
 #![tactic(auto)]
 
 ghost use Rattle.std.specs.Prelude.{◌≤◌, length};
 
 use fields::buffers;
-use libc::{STDERR_FILENO, STDIN_FILENO, STDOUT_FILENO};
 use listing::Lister;
+use std::fs::File;
+use std::io::{Read, Write};
+use std::process::ExitCode;
+use std::{env, io};
 
 // The lister behind a chunk, and how many bytes of the buffer are the chunk's lines.
 #[derive(Clone, Copy)]
@@ -39,91 +42,86 @@ fn list_chunk(lister: Lister, chunk: &[u8], out: &mut [u8]) -> Lines
     Lines { lister: l, count }
 }
 
-// Says what failed, and why the last call did.
-fn fail(what: &[u8]) {
-    io::write_all(STDERR_FILENO, b"list: ");
-    os::fail(what);
+// Which end of the program failed, and why.
+#[derive(Clone, Copy)]
+enum Failure {
+    Read(io::Error),
+    Write(io::Error),
 }
 
-// Whether the bytes were written; a failure is said.
-fn write(bytes: &[u8]) -> bool {
-    if io::write_all(STDOUT_FILENO, bytes) {
-        return true;
-    }
-    fail(b"standard output");
-    false
+fn write<W: Write>(out: &mut W, bytes: &[u8]) -> Result<(), Failure> {
+    out.write_all(bytes).map_err(Failure::Write)
 }
 
 // Writes the last lines.
-fn write_end(lister: Lister) {
+fn write_end<W: Write>(out: &mut W, lister: Lister) -> Result<(), Failure> {
     let mut last = [0; 72];
     let n = lister.end(&mut last);
-    write(&last[..n]);
+    write(out, &last[..n])
 }
 
 // Lists what is read up to its end. The lines of a chunk are written together: 2048 bytes have at most 2048 lines.
-// A proved loop has to end, and nothing says that an input does, so the loop counts its turns down from a number that no run uses up.
-fn list_all(fd: i32, name: &[u8]) {
+// A proved loop has to end, and nothing says that an input does, so the loop has a number of turns that no run uses up.
+fn list_all<R: Read, W: Write>(input: &mut R, out: &mut W) -> Result<(), Failure> {
     let mut l = Lister::new();
     let mut buf = [0; 2048];
-    let mut out = io::large_buffer();
-    let mut turns = u64::MAX;
-    while 0 < turns {
-        let got = libc::read(fd, &mut buf);
-        if got < 0 {
-            return fail(name);
-        }
-        let n = io::count(got, &buf);
+    let mut lines = [0; 65536];
+    write(out, &listing::heading())?;
+    for _ in 0..u64::MAX {
+        let n = input.read(&mut buf).map_err(Failure::Read)?;
         if n == 0 {
-            return write_end(l);
+            return write_end(out, l);
         }
-        let lines = list_chunk(l, &buf[..n], &mut out);
-        let next = lines.lister;
-        let count = lines.count;
-        l = next;
-        if !write(&out[..count]) {
-            return;
+        let got = list_chunk(l, &buf[..n], &mut lines);
+        l = got.lister;
+        write(out, &lines[..got.count])?;
+    }
+    Ok(())
+}
+
+// An error's words, without the number that std puts behind them.
+fn words_of(text: &str) -> &str {
+    match text.split_once(" (os error ") {
+        Some((words, _)) => words,
+        None => text,
+    }
+}
+
+// Says what failed, and why.
+fn fail(rt: &HostRuntime, what: &str, why: io::Error) -> io::Result<ExitCode> {
+    let text = why.to_string(rt.alloc())?;
+    let words = words_of(text.as_str());
+    eprintln!(rt; "list: {what}: {words}")?;
+    Ok(ExitCode::FAILURE)
+}
+
+fn list<R: Read>(rt: &HostRuntime, input: &mut R, name: &str) -> io::Result<ExitCode> {
+    match list_all(input, &mut rt.stdout()) {
+        Ok(()) => Ok(ExitCode::SUCCESS),
+        Err(Failure::Read(why)) => fail(rt, name, why),
+        Err(Failure::Write(why)) => fail(rt, "standard output", why),
+    }
+}
+
+fn list_file(rt: &HostRuntime, path: &str) -> io::Result<ExitCode> {
+    if path.is_empty() || 4095 < path.len() {
+        eprintln!(rt; "list: a path has 1 to 4095 bytes")?;
+        return Ok(ExitCode::SUCCESS);
+    }
+    match File::open(rt, path) {
+        Ok(mut file) => list(rt, &mut file, path),
+        Err(why) => fail(rt, path, why),
+    }
+}
+
+fn main(rt: HostRuntime) -> io::Result<ExitCode> {
+    let mut words = env::args(&rt)?.skip(1);
+    match (words.next(), words.next()) {
+        (None, _) => list(&rt, &mut rt.stdin(), "standard input"),
+        (Some(path), None) => list_file(&rt, path.as_str()),
+        _ => {
+            eprintln!(rt; "usage: list [FILE]")?;
+            Ok(ExitCode::SUCCESS)
         }
-        turns -= 1;
     }
-}
-
-fn list(fd: i32, name: &[u8]) {
-    let head = listing::heading();
-    if write(&head) {
-        list_all(fd, name);
-    }
-}
-
-fn list_file(path: &[u8]) {
-    let fd = os::open_read(path);
-    if fd < 0 {
-        return fail(path);
-    }
-    list(fd, path);
-    libc::close(fd);
-}
-
-fn say(what: &[u8]) {
-    io::write_all(STDERR_FILENO, what);
-}
-
-// A path that is empty here was too long for its buffer, or empty.
-fn start(words: usize, path: &[u8]) {
-    if words < 2 {
-        return list(STDIN_FILENO, b"standard input");
-    }
-    if 2 < words {
-        return say(b"usage: list [FILE]\n");
-    }
-    if path.len() == 0 {
-        return say(b"list: a path has 1 to 4095 bytes\n");
-    }
-    list_file(path)
-}
-
-fn main() {
-    let mut path = io::buffer();
-    let n = os::arg(1, &mut path);
-    start(os::arg_count(), &path[..n]);
 }

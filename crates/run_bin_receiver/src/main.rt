@@ -20,49 +20,51 @@ use bin_receiver::{Receiver, ReceiverAnswer};
 use calls::Status;
 use crc::Reading;
 use fields::buffers;
-use libc::STDIN_FILENO;
 use script::printing::{
     put, put_answer, put_number, put_outcome, put_status, put_stored, put_text, put_touched,
 };
 use script::reading::{before, behind, decode, is_word, number, place_in, playable, word};
+use std::io;
+use std::io::{Read, Write};
 
 // ---- Printing
 
-fn put_basic(size: u32, kept: u32) {
-    put_number(b" Basic ", size as usize);
-    put_number(b" ", kept as usize);
+fn put_basic<W: Write>(out: &mut W, size: u32, kept: u32) -> io::Result<()> {
+    put_number(out, b" Basic ", size as usize)?;
+    put_number(out, b" ", kept as usize)
 }
 
-fn put_state(state: ReceiverState) {
+fn put_state<W: Write>(out: &mut W, state: ReceiverState) -> io::Result<()> {
     match state {
-        ReceiverState::Waiting => put(b" Waiting"),
-        ReceiverState::Basic { size, kept } => put_basic(size, kept),
-        ReceiverState::Extended { crc } => put_number(b" Extended ", crc as usize),
-        ReceiverState::Ended { outcome } => put_outcome(b" ended ", outcome),
+        ReceiverState::Waiting => put(out, b" Waiting"),
+        ReceiverState::Basic { size, kept } => put_basic(out, size, kept),
+        ReceiverState::Extended { crc } => put_number(out, b" Extended ", crc as usize),
+        ReceiverState::Ended { outcome } => put_outcome(out, b" ended ", outcome),
     }
 }
 
-fn put_end(status: Status, m: Receiver) {
-    put(b" ->");
-    put_status(status);
-    put_state(m.state());
+fn put_end<W: Write>(out: &mut W, status: Status, m: Receiver) -> io::Result<()> {
+    put(out, b" ->")?;
+    put_status(out, status)?;
+    put_state(out, m.state())
 }
 
-fn put_counts(sent: &[u8], stored: usize, shown: &[u8]) {
-    put_text(b"; sent ", sent);
-    put_number(b"; stored ", stored);
-    put_text(b"; shown ", shown);
+fn put_counts<W: Write>(out: &mut W, sent: &[u8], stored: usize, shown: &[u8]) -> io::Result<()> {
+    put_text(out, b"; sent ", sent)?;
+    put_number(out, b"; stored ", stored)?;
+    put_text(out, b"; shown ", shown)
 }
 
-fn show(got: ReceiverAnswer, frame: &[u8], reply: &[u8]) {
+fn show<W: Write>(out: &mut W, got: ReceiverAnswer, frame: &[u8], reply: &[u8]) -> io::Result<()> {
     let status = got.status;
-    put_end(status, got.receiver);
+    put_end(out, status, got.receiver)?;
     put_counts(
+        out,
         fields::part(reply, 0, got.sent),
         got.stored,
         fields::bytes_at(frame, got.shown),
-    );
-    put_touched(b"; reply", reply);
+    )?;
+    put_touched(out, b"; reply", reply)
 }
 
 // ---- Beginnings
@@ -104,9 +106,9 @@ fn begin(which: usize, line: &[u8], area: &mut [u8]) -> Receiver {
     )
 }
 
-fn put_begun(m: Receiver) {
-    put(b" ->");
-    put_state(m.state());
+fn put_begun<W: Write>(out: &mut W, m: Receiver) -> io::Result<()> {
+    put(out, b" ->")?;
+    put_state(out, m.state())
 }
 
 // ---- Calls
@@ -127,88 +129,116 @@ fn call_receiver(
 }
 
 // A call with the bytes that a word says.
-fn hand(m: Receiver, which: usize, text: &[u8], area: &mut [u8], reply: &mut [u8]) -> Receiver {
+fn hand<W: Write>(
+    out: &mut W,
+    m: Receiver,
+    which: usize,
+    text: &[u8],
+    area: &mut [u8],
+    reply: &mut [u8],
+) -> io::Result<Receiver> {
     let mut space = [0u8; 1200];
     let n = decode(text, &mut space);
     let frame = fields::part(&space, 0, n);
     let got = call_receiver(m, which, frame, area, reply);
-    show(got, frame, reply);
-    got.receiver
+    show(out, got, frame, reply)?;
+    Ok(got.receiver)
 }
 
-fn call(m: Receiver, which: usize, text: &[u8], area: &mut [u8], reply: &mut [u8]) -> Receiver {
+fn call<W: Write>(
+    out: &mut W,
+    m: Receiver,
+    which: usize,
+    text: &[u8],
+    area: &mut [u8],
+    reply: &mut [u8],
+) -> io::Result<Receiver> {
     let mut old = [0u8; 32];
     buffers::append_bytes(&mut old, 0, area);
-    let next = hand(m, which, text, area, reply);
-    put_stored(&old, area);
-    next
+    let next = hand(out, m, which, text, area, reply)?;
+    put_stored(out, &old, area)?;
+    Ok(next)
 }
 
 // The record into 81 bytes, and into 80.
-fn put_record(m: Receiver) {
+fn put_record<W: Write>(out: &mut W, m: Receiver) -> io::Result<()> {
     let mut buf = [0xEE; 81];
     let got = m.record(&mut buf);
-    put_answer(got, &buf);
+    put_answer(out, got, &buf)
 }
 
-fn put_record_80(m: Receiver) {
+fn put_record_80<W: Write>(out: &mut W, m: Receiver) -> io::Result<()> {
     let mut buf = [0xEE; 80];
     let got = m.record(&mut buf);
-    put_answer(got, &buf);
+    put_answer(out, got, &buf)
 }
 
 // What a line says to do: a call, 0 to 3; a beginning, 4 and 5; to show the record, 6 and 7; nothing, 8.
-fn act(m: Receiver, line: &[u8], area: &mut [u8], reply: &mut [u8]) -> Receiver {
+fn act<W: Write>(
+    out: &mut W,
+    m: Receiver,
+    line: &[u8],
+    area: &mut [u8],
+    reply: &mut [u8],
+) -> io::Result<Receiver> {
     let which = place_in(b"leave frame timer stop fresh resume record 80", 8, line);
     if which < 4 {
-        return call(m, which, word(line, 1), area, reply);
+        return call(out, m, which, word(line, 1), area, reply);
     }
     if which < 6 {
         let begun = begin(which, line, area);
-        put_begun(begun);
-        return begun;
+        put_begun(out, begun)?;
+        return Ok(begun);
     }
     if which == 6 {
-        put_record(m);
+        put_record(out, m)?;
     }
     if which == 7 {
-        put_record_80(m);
+        put_record_80(out, m)?;
     }
-    m
+    Ok(m)
 }
 
 // A line with a reply buffer of 258 bytes, and with one of 259.
-fn act_258(m: Receiver, line: &[u8], area: &mut [u8]) -> Receiver {
+fn act_258<W: Write>(
+    out: &mut W,
+    m: Receiver,
+    line: &[u8],
+    area: &mut [u8],
+) -> io::Result<Receiver> {
     let mut reply = [0xEE; 258];
-    act(m, line, area, &mut reply)
+    act(out, m, line, area, &mut reply)
 }
 
-fn turn(m: Receiver, line: &[u8], area: &mut [u8]) -> Receiver {
+fn turn<W: Write>(out: &mut W, m: Receiver, line: &[u8], area: &mut [u8]) -> io::Result<Receiver> {
     if is_word(line, 0, b"258") {
-        return act_258(m, behind(line, b' '), area);
+        return act_258(out, m, behind(line, b' '), area);
     }
     let mut reply = [0xEE; 259];
-    act(m, line, area, &mut reply)
+    act(out, m, line, area, &mut reply)
 }
 
-fn run(script: &[u8]) {
+fn run<W: Write>(out: &mut W, script: &[u8]) -> io::Result<()> {
     let mut space = [0xEE; 32];
     let area: &mut [u8] = &mut space;
     let mut m = Receiver::fresh(32, false, Reading::Bare);
     let mut rest = script;
     while 0 < rest.len() {
         let line = before(rest, b'\n');
-        put(line);
-        m = turn(m, line, area);
-        put(b"\n");
+        put(out, line)?;
+        m = turn(out, m, line, area)?;
+        put(out, b"\n")?;
         let next = behind(rest, b'\n');
         rest = next;
     }
+    Ok(())
 }
 
 // One byte more than a script may have, so that a longer one shows.
-fn main() {
-    let mut script = [0u8; 16385];
-    let n = io::read_full(STDIN_FILENO, &mut script);
-    run(playable(fields::part(&script, 0, n)));
+fn main(rt: HostRuntime) -> io::Result<()> {
+    let mut script = Vec::new(rt.alloc());
+    rt.stdin().take(16_385).read_to_end(&mut script)?;
+    let out = &mut rt.stdout();
+    let played = playable(out, &script)?;
+    run(out, played)
 }

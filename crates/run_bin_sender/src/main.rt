@@ -15,37 +15,38 @@ use bin::SenderState;
 use bin_sender::{Sender, SenderAnswer};
 use calls::Status;
 use crc::Reading;
-use libc::STDIN_FILENO;
 use script::printing::{put, put_number, put_outcome, put_status, put_text, put_touched};
 use script::reading::{before, behind, decode, is_word, number, place_in, playable, word};
+use std::io;
+use std::io::{Read, Write};
 
 // ---- Printing
 
-fn put_state(state: SenderState) {
+fn put_state<W: Write>(out: &mut W, state: SenderState) -> io::Result<()> {
     match state {
-        SenderState::Start => put(b" Start"),
-        SenderState::Wait => put(b" Wait"),
-        SenderState::Send { at } => put_number(b" Send ", at as usize),
-        SenderState::Ended { outcome } => put_outcome(b" ended ", outcome),
+        SenderState::Start => put(out, b" Start"),
+        SenderState::Wait => put(out, b" Wait"),
+        SenderState::Send { at } => put_number(out, b" Send ", at as usize),
+        SenderState::Ended { outcome } => put_outcome(out, b" ended ", outcome),
     }
 }
 
-fn put_end(status: Status, m: Sender) {
-    put(b" ->");
-    put_status(status);
-    put_state(m.state());
+fn put_end<W: Write>(out: &mut W, status: Status, m: Sender) -> io::Result<()> {
+    put(out, b" ->")?;
+    put_status(out, status)?;
+    put_state(out, m.state())
 }
 
-fn show(got: SenderAnswer, reply: &[u8]) {
+fn show<W: Write>(out: &mut W, got: SenderAnswer, reply: &[u8]) -> io::Result<()> {
     let status = got.status;
-    put_end(status, got.sender);
-    put_text(b"; sent ", fields::part(reply, 0, got.sent));
-    put_touched(b"; reply", reply);
+    put_end(out, status, got.sender)?;
+    put_text(out, b"; sent ", fields::part(reply, 0, got.sent))?;
+    put_touched(out, b"; reply", reply)
 }
 
-fn put_begun(m: Sender) {
-    put(b" ->");
-    put_state(m.state());
+fn put_begun<W: Write>(out: &mut W, m: Sender) -> io::Result<()> {
+    put(out, b" ->")?;
+    put_state(out, m.state())
 }
 
 // ---- Beginnings
@@ -100,12 +101,19 @@ fn call_sender(
 }
 
 // A call with the bytes that a word says.
-fn call(m: Sender, which: usize, text: &[u8], file: &[u8], reply: &mut [u8]) -> Sender {
+fn call<W: Write>(
+    out: &mut W,
+    m: Sender,
+    which: usize,
+    text: &[u8],
+    file: &[u8],
+    reply: &mut [u8],
+) -> io::Result<Sender> {
     let mut frame = [0u8; 1200];
     let n = decode(text, &mut frame);
     let got = call_sender(m, which, fields::part(&frame, 0, n), file, reply);
-    show(got, reply);
-    got.sender
+    show(out, got, reply)?;
+    Ok(got.sender)
 }
 
 // What a line says to do: a call, 0 to 3; a beginning, 4 and 5; nothing, 6.
@@ -122,34 +130,40 @@ fn load(line: &[u8], size: usize, file: &mut [u8]) -> usize {
     }
 }
 
-fn act(m: Sender, line: &[u8], file: &[u8], reply: &mut [u8]) -> Sender {
+fn act<W: Write>(
+    out: &mut W,
+    m: Sender,
+    line: &[u8],
+    file: &[u8],
+    reply: &mut [u8],
+) -> io::Result<Sender> {
     let which = call_of(line);
     if which < 4 {
-        return call(m, which, word(line, 1), file, reply);
+        return call(out, m, which, word(line, 1), file, reply);
     }
     if which < 6 {
         let begun = begin(which, line);
-        put_begun(begun);
-        return begun;
+        put_begun(out, begun)?;
+        return Ok(begun);
     }
-    m
+    Ok(m)
 }
 
 // A line with a reply buffer of 258 bytes, and with one of 259.
-fn act_258(m: Sender, line: &[u8], file: &[u8]) -> Sender {
+fn act_258<W: Write>(out: &mut W, m: Sender, line: &[u8], file: &[u8]) -> io::Result<Sender> {
     let mut reply = [0xEE; 258];
-    act(m, line, file, &mut reply)
+    act(out, m, line, file, &mut reply)
 }
 
-fn turn(m: Sender, line: &[u8], file: &[u8]) -> Sender {
+fn turn<W: Write>(out: &mut W, m: Sender, line: &[u8], file: &[u8]) -> io::Result<Sender> {
     if is_word(line, 0, b"258") {
-        return act_258(m, behind(line, b' '), file);
+        return act_258(out, m, behind(line, b' '), file);
     }
     let mut reply = [0xEE; 259];
-    act(m, line, file, &mut reply)
+    act(out, m, line, file, &mut reply)
 }
 
-fn run(script: &[u8]) {
+fn run<W: Write>(out: &mut W, script: &[u8]) -> io::Result<()> {
     let mut space = [0u8; 1200];
     let file: &mut [u8] = &mut space;
     let mut m = Sender::begin_basic(0, 1);
@@ -157,18 +171,21 @@ fn run(script: &[u8]) {
     let mut rest = script;
     while 0 < rest.len() {
         let line = before(rest, b'\n');
-        put(line);
+        put(out, line)?;
         size = load(line, size, file);
-        m = turn(m, line, fields::part(file, 0, size));
-        put(b"\n");
+        m = turn(out, m, line, fields::part(file, 0, size))?;
+        put(out, b"\n")?;
         let next = behind(rest, b'\n');
         rest = next;
     }
+    Ok(())
 }
 
 // One byte more than a script may have, so that a longer one shows.
-fn main() {
-    let mut script = [0u8; 16385];
-    let n = io::read_full(STDIN_FILENO, &mut script);
-    run(playable(fields::part(&script, 0, n)));
+fn main(rt: HostRuntime) -> io::Result<()> {
+    let mut script = Vec::new(rt.alloc());
+    rt.stdin().take(16_385).read_to_end(&mut script)?;
+    let out = &mut rt.stdout();
+    let played = playable(out, &script)?;
+    run(out, played)
 }

@@ -1,10 +1,12 @@
 // Prints the table of `crc` in the layout of source document 003.
 #![tactic(auto)]
 
-ghost use Rattle.std.specs.Prelude.{◌≡◌, ◌<◌};
-ghost use Rattle.run_crc.specs.Text.{hex_digit, text_of};
+ghost use Rattle.std.specs.Prelude.{◌≡◌, ◌<◌, OnOk};
+ghost use Rattle.std.specs.Io.KnownBytes.{Appends};
+ghost use Rattle.run_crc.specs.Text.{hex_digit, text_of, printed, printed_first};
 
-use libc::STDOUT_FILENO;
+use std::io;
+use std::io::Write;
 
 fn hex_digit(n: u16) -> u8
     requires { n < 16 }
@@ -28,22 +30,32 @@ fn text_of(v: u16) -> [u8; 6]
 }
 
 // Four spaces before the first of eight entries, a comma behind all but the last entry of the table.
-fn print_entry(i: u8) {
+fn print_entry<W: Write>(out: &mut W, i: u8) -> io::Result<()>
+    ensures { OnOk result (Appends (W.contents out.old) (W.contents out.new) (printed i)) }
+{
     if i % 8 == 0 {
-        io::write_all(STDOUT_FILENO, b"    ");
+        out.write_all(b"    ")?;
     }
-    let text = text_of(crc::entry(i));
-    io::write_all(STDOUT_FILENO, &text);
+    out.write_all(&text_of(crc::entry(i)))?;
     if i < 255 {
-        io::write_all(STDOUT_FILENO, b",");
+        out.write_all(b",")?;
     }
     if i % 8 == 7 {
-        io::write_all(STDOUT_FILENO, b"\n");
+        out.write_all(b"\n")?;
     }
+    Ok(())
 }
 
-fn main() {
+// The whole table.
+fn print_table<W: Write>(out: &mut W) -> io::Result<()>
+    ensures { OnOk result (Appends (W.contents out.old) (W.contents out.new) (printed_first 256)) }
+{
     for i in 0u8..=255 {
-        print_entry(i);
+        print_entry(out, i)?;
     }
+    Ok(())
+}
+
+fn main(rt: HostRuntime) -> io::Result<()> {
+    print_table(&mut rt.stdout())
 }

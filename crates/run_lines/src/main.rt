@@ -7,80 +7,89 @@ use lines::{Frame, Kept, Line, line_reader};
 use numbers::hex_writer;
 use script::printing::{put, put_bytes, put_number, put_outcome};
 use script::reading::{before, behind};
+use std::io;
+use std::io::Write;
 
-fn put_stamp(v: u32) {
+fn put_stamp<W: Write>(out: &mut W, v: u32) -> io::Result<()> {
     let mut digits = [0u8; 8];
     hex_writer::append_hex(&mut digits, 0, v);
-    put(b" stamp ");
-    put(&digits);
+    put(out, b" stamp ")?;
+    put(out, &digits)
 }
 
-fn put_name(label: &[u8], b: &[u8], p: Place) {
-    put(label);
-    put_bytes(fields::bytes_at(b, p));
+fn put_name<W: Write>(out: &mut W, label: &[u8], b: &[u8], p: Place) -> io::Result<()> {
+    put(out, label)?;
+    put_bytes(out, fields::bytes_at(b, p))
 }
 
-fn put_line(b: &[u8], l: Line) {
-    put_number(b"line size ", l.size as usize);
-    put_number(b" crc ", l.crc as usize);
-    put_stamp(l.stamp);
+fn put_line<W: Write>(out: &mut W, b: &[u8], l: Line) -> io::Result<()> {
+    put_number(out, b"line size ", l.size as usize)?;
+    put_number(out, b" crc ", l.crc as usize)?;
+    put_stamp(out, l.stamp)?;
     if l.resumable {
-        put(b" resume");
+        put(out, b" resume")?;
     }
-    put_name(b" name ", b, l.name);
+    put_name(out, b" name ", b, l.name)
 }
 
-fn put_kept(b: &[u8], k: Kept) {
-    put_name(b"OK name ", b, k.name);
-    put_number(b" kept ", k.kept as usize);
-    put_number(b" crc ", k.crc as usize);
+fn put_kept<W: Write>(out: &mut W, b: &[u8], k: Kept) -> io::Result<()> {
+    put_name(out, b"OK name ", b, k.name)?;
+    put_number(out, b" kept ", k.kept as usize)?;
+    put_number(out, b" crc ", k.crc as usize)
 }
 
-fn put_frame(b: &[u8]) {
+fn put_frame<W: Write>(out: &mut W, b: &[u8]) -> io::Result<()> {
     match line_reader::frame_of(b) {
-        Frame::Basic(size) => put_number(b"basic size ", size as usize),
-        Frame::Extended(l) => put_line(b, l),
-        Frame::MalformedLine(fault) => put_outcome(b"malformed line ", Outcome::Malformed(fault)),
-        Frame::OK => put(b"OK"),
-        Frame::OKName(p) => put_name(b"OK name ", b, p),
-        Frame::OKKept(k) => put_kept(b, k),
-        Frame::MalformedOK(fault) => put_outcome(b"malformed OK ", Outcome::Malformed(fault)),
-        Frame::NO(p) => put_name(b"NO text ", b, p),
-        Frame::Stop => put(b"stop"),
-        Frame::Display(p) => put_name(b"display ", b, p),
-        Frame::Other => put(b"other"),
+        Frame::Basic(size) => put_number(out, b"basic size ", size as usize),
+        Frame::Extended(l) => put_line(out, b, l),
+        Frame::MalformedLine(fault) => put_outcome(
+            out,
+            b"malformed line ",
+            Outcome::Malformed(fault),
+        ),
+        Frame::OK => put(out, b"OK"),
+        Frame::OKName(p) => put_name(out, b"OK name ", b, p),
+        Frame::OKKept(k) => put_kept(out, b, k),
+        Frame::MalformedOK(fault) => put_outcome(out, b"malformed OK ", Outcome::Malformed(fault)),
+        Frame::NO(p) => put_name(out, b"NO text ", b, p),
+        Frame::Stop => put(out, b"stop"),
+        Frame::Display(p) => put_name(out, b"display ", b, p),
+        Frame::Other => put(out, b"other"),
     }
 }
 
-fn show(b: &[u8]) {
-    put(b"[");
-    put_bytes(b);
-    put(b"] ");
-    put_frame(b);
-    put(b"\n");
+fn show<W: Write>(out: &mut W, b: &[u8]) -> io::Result<()> {
+    put(out, b"[")?;
+    put_bytes(out, b)?;
+    put(out, b"] ")?;
+    put_frame(out, b)?;
+    put(out, b"\n")
 }
 
 // Every beginning of b, from the empty one to all but the last byte.
-fn show_beginnings(b: &[u8]) {
+fn show_beginnings<W: Write>(out: &mut W, b: &[u8]) -> io::Result<()> {
     let mut n = 0;
     while n < b.len() {
-        show(fields::part(b, 0, n));
+        show(out, fields::part(b, 0, n))?;
         n += 1;
     }
+    Ok(())
 }
 
 // Every frame of these, with a `~` behind each.
-fn show_all(frames: &[u8]) {
+fn show_all<W: Write>(out: &mut W, frames: &[u8]) -> io::Result<()> {
     let mut rest = frames;
     while 0 < rest.len() {
-        show(before(rest, b'~'));
+        show(out, before(rest, b'~'))?;
         let next = behind(rest, b'~');
         rest = next;
     }
+    Ok(())
 }
 
-fn lines_read() {
+fn lines_read<W: Write>(out: &mut W) -> io::Result<()> {
     show_all(
+        out,
         b"#BIN#3\r~\
           #BIN#00000003\r~\
           #BIN#99999999\r~\
@@ -90,11 +99,12 @@ fn lines_read() {
           #BIN#3#|65535#$FFFFFFFF#abc.txt\r~\
           #BIN#3#|6822#$5A214800?#aaaaaaaaaabbbbbbbbbbccccccccccddddddddddeeeeeeeeeeffffffffffgggg\r~\
           ",
-    );
+    )
 }
 
-fn lines_malformed() {
+fn lines_malformed<W: Write>(out: &mut W) -> io::Result<()> {
     show_all(
+        out,
         b"#BIN#3~\
           #BIN#3\r\n~\
           #BIN#\r~\
@@ -128,11 +138,12 @@ fn lines_malformed() {
           #BIN#12#|1#$5A214800?#a\r\r~\
           #BIN#12345678x\r~\
           ",
-    );
+    )
 }
 
-fn replies() {
+fn replies<W: Write>(out: &mut W) -> io::Result<()> {
     show_all(
+        out,
         b"#OK#\r~\
           #OK#abc.txt\r~\
           #OK#abc.txt#$2#16706\r~\
@@ -159,11 +170,12 @@ fn replies() {
           #NO#~\
           #NO#a\rb\r~\
           ",
-    );
+    )
 }
 
-fn others() {
+fn others<W: Write>(out: &mut W) -> io::Result<()> {
     show_all(
+        out,
         b"\r#ABORT#\r~\
           #ABORT#\r~\
           \r#ABORT#~\
@@ -175,13 +187,14 @@ fn others() {
           #bin#3\r~\
           ABC~\
           ",
-    );
+    )
 }
 
-fn main() {
-    lines_read();
-    lines_malformed();
-    replies();
-    others();
-    show_beginnings(b"#BIN#3#|6822#$5A214800?#abc.txt\r");
+fn main(rt: HostRuntime) -> io::Result<()> {
+    let out = &mut rt.stdout();
+    lines_read(out)?;
+    lines_malformed(out)?;
+    replies(out)?;
+    others(out)?;
+    show_beginnings(out, b"#BIN#3#|6822#$5A214800?#abc.txt\r")
 }

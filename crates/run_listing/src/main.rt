@@ -6,6 +6,8 @@ ghost use Rattle.std.specs.Prelude.{◌≤◌, ◌<◌};
 use listing::Lister;
 use script::printing::put;
 use script::reading::{before, behind};
+use std::io;
+use std::io::Write;
 
 // Where the chunk ends that starts here.
 fn chunk_end(at: usize, len: usize) -> usize
@@ -15,7 +17,7 @@ fn chunk_end(at: usize, len: usize) -> usize
     if 7 < len - at { at + 7 } else { len }
 }
 
-fn feed(lister: Lister, s: &[u8]) -> Lister {
+fn feed<W: Write>(out: &mut W, lister: Lister, s: &[u8]) -> io::Result<Lister> {
     let mut l = lister;
     let mut line = [0; 32];
     let mut at = 0;
@@ -26,60 +28,64 @@ fn feed(lister: Lister, s: &[u8]) -> Lister {
         let written = got.written;
         l = next;
         at += got.taken;
-        put(&line[..written]);
+        put(out, &line[..written])?;
     }
-    l
+    Ok(l)
 }
 
-fn write_end(lister: Lister) {
+fn write_end<W: Write>(out: &mut W, lister: Lister) -> io::Result<()> {
     let mut last = [0; 72];
     let n = lister.end(&mut last);
-    put(&last[..n]);
+    put(out, &last[..n])
 }
 
 // Writes the title and the header line.
-fn start(title: &[u8]) -> Lister {
-    put(title);
+fn start<W: Write>(out: &mut W, title: &[u8]) -> io::Result<Lister> {
+    put(out, title)?;
     let head = listing::heading();
-    put(&head);
-    Lister::new()
+    put(out, &head)?;
+    Ok(Lister::new())
 }
 
 // A case is its title's line and behind it the capture.
-fn list(case: &[u8]) {
+fn list<W: Write>(out: &mut W, case: &[u8]) -> io::Result<()> {
     let at = fields::find(case, b'\n') + 1;
-    let l = start(fields::part(case, 0, at));
-    write_end(feed(l, fields::part(case, at, case.len())));
+    let l = start(out, fields::part(case, 0, at))?;
+    let done = feed(out, l, fields::part(case, at, case.len()))?;
+    write_end(out, done)
 }
 
 // The case whose capture is a packet, cut behind each of the packet's bytes but the last.
-fn cuts(case: &[u8]) {
+fn cuts<W: Write>(out: &mut W, case: &[u8]) -> io::Result<()> {
     let mut n = fields::find(case, b'\n') + 2;
     while n < case.len() {
-        list(fields::part(case, 0, n));
+        list(out, fields::part(case, 0, n))?;
         n += 1;
     }
+    Ok(())
 }
 
-fn show(case: &[u8], is_cut: bool) {
+fn show<W: Write>(out: &mut W, case: &[u8], is_cut: bool) -> io::Result<()> {
     if is_cut {
-        return cuts(case);
+        return cuts(out, case);
     }
-    list(case)
+    list(out, case)
 }
 
 // Every case of these, with a `~` behind each.
-fn show_all(cases: &[u8], are_cut: bool) {
+fn show_all<W: Write>(out: &mut W, cases: &[u8], are_cut: bool) -> io::Result<()> {
     let mut rest = cases;
     while 0 < rest.len() {
-        show(before(rest, b'~'), are_cut);
+        show(out, before(rest, b'~'), are_cut)?;
         let next = behind(rest, b'~');
         rest = next;
     }
+    Ok(())
 }
 
-fn captures() {
+fn captures<W: Write>(out: &mut W) -> io::Result<()> {
     show_all(
+        out,
         b"== empty\n~\
           == every kind\n\x06\x01\x06\x02\x06\x03\x06\x04\x06\x05\x06\x06\x05\x01\x05\x02\x03*.*\x01\x0Blot7.csv\x003\x00\x02\x03ABC\x03\x01\x04\x01\x15\x03one\x15\x05R\x0044\x00\x18\x00\x10\x02hi~\
           == drops\n\x05\x01\x00\x06\x01\xFF\x06\x07\x05\x03\x03\x02\x02\x01A\x04\x02\x06\x00AB\x04\x01~\
@@ -89,11 +95,12 @@ fn captures() {
           == headers with an option\n\x01\x05a\x003\x00z\x01\x0Da\x003\x005A214800\x00~\
           ",
         false,
-    );
+    )
 }
 
-fn packets() {
+fn packets<W: Write>(out: &mut W) -> io::Result<()> {
     show_all(
+        out,
         b"== RR cut\n\x06\x01~\
           == RF cut\n\x06\x02~\
           == AF cut\n\x06\x03~\
@@ -112,34 +119,41 @@ fn packets() {
           == TX cut\n\x10\x02hi~\
           ",
         true,
-    );
+    )
 }
 
 // More bytes than any buffer of this program has: SI, a DT of 256 bytes 20 times, ET.
-fn long() {
+fn long<W: Write>(out: &mut W) -> io::Result<()> {
     let mut block = [6; 258];
     block[0] = 2;
     block[1] = 0;
-    let mut l = start(b"== long\n");
-    l = feed(l, b"\x05\x01");
+    let mut l = start(out, b"== long\n")?;
+    l = feed(out, l, b"\x05\x01")?;
     let mut i: usize = 0;
     while i < 20 {
-        l = feed(l, &block);
+        l = feed(out, l, &block)?;
         i += 1;
     }
-    write_end(feed(l, b"\x04\x01"));
+    l = feed(out, l, b"\x04\x01")?;
+    write_end(out, l)
 }
 
 // Document 01's example, cut inside HD and inside DT.
-fn parts(capture: &[u8]) {
-    let first = feed(start(b"== in parts\n"), fields::part(capture, 0, 9));
-    let second = feed(first, fields::part(capture, 9, 8));
-    write_end(feed(second, fields::part(capture, 17, capture.len())));
+fn parts<W: Write>(out: &mut W, capture: &[u8]) -> io::Result<()> {
+    let head = start(out, b"== in parts\n")?;
+    let first = feed(out, head, fields::part(capture, 0, 9))?;
+    let second = feed(out, first, fields::part(capture, 9, 8))?;
+    let third = feed(out, second, fields::part(capture, 17, capture.len()))?;
+    write_end(out, third)
 }
 
-fn main() {
-    captures();
-    packets();
-    long();
-    parts(b"\x05\x01\x01\x0Blot7.csv\x003\x00\x02\x03ABC\x03\x01\x04\x01");
+fn main(rt: HostRuntime) -> io::Result<()> {
+    let out = &mut rt.stdout();
+    captures(out)?;
+    packets(out)?;
+    long(out)?;
+    parts(
+        out,
+        b"\x05\x01\x01\x0Blot7.csv\x003\x00\x02\x03ABC\x03\x01\x04\x01",
+    )
 }

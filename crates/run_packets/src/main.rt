@@ -6,31 +6,38 @@ use calls::outcomes;
 use fields::{Fault, Flaw, Place, Stamp, Written};
 use packets::{Block, Header, Packet, Resume, packet_reader};
 use script::printing::{put, put_bytes, put_hex, put_number, put_touched};
+use std::io;
+use std::io::Write;
 
 // ---- Packets written
 
-fn put_written(label: &[u8], written: Written, reply: &[u8]) {
-    put(label);
-    put(b":");
+fn put_written<W: Write>(
+    out: &mut W,
+    label: &[u8],
+    written: Written,
+    reply: &[u8],
+) -> io::Result<()> {
+    put(out, label)?;
+    put(out, b":")?;
     match written {
-        Written::Bytes(n) => put_hex(fields::part(fields::part(reply, 0, n), 0, 16)),
-        _ => put_number(b" ", outcomes::written_number(written) as usize),
+        Written::Bytes(n) => put_hex(out, fields::part(fields::part(reply, 0, n), 0, 16))?,
+        _ => put_number(out, b" ", outcomes::written_number(written) as usize)?,
     }
-    put_touched(b"; reply", reply);
-    put(b"\n");
+    put_touched(out, b"; reply", reply)?;
+    put(out, b"\n")
 }
 
 // Into a reply buffer of 259 bytes, and into one of 258.
-fn write(label: &[u8], packet: Packet, source: &[u8]) {
+fn write<W: Write>(out: &mut W, label: &[u8], packet: Packet, source: &[u8]) -> io::Result<()> {
     let mut reply = [0xEE; 259];
     let written = packet_writer::write(packet, source, false, &mut reply);
-    put_written(label, written, &reply);
+    put_written(out, label, written, &reply)
 }
 
-fn write_258(label: &[u8], packet: Packet, source: &[u8]) {
+fn write_258<W: Write>(out: &mut W, label: &[u8], packet: Packet, source: &[u8]) -> io::Result<()> {
     let mut reply = [0xEE; 258];
     let written = packet_writer::write(packet, source, false, &mut reply);
-    put_written(label, written, &reply);
+    put_written(out, label, written, &reply)
 }
 
 // The first bytes of a source.
@@ -38,126 +45,134 @@ fn first(len: usize) -> Place {
     Place { start: 0, len }
 }
 
-fn texts() {
-    write(b"TX", Packet::TX(first(2)), b"hi");
-    write(b"RI", Packet::RI(first(3)), b"*.*");
-    write(b"CN with no reason", Packet::CN(first(0)), b"");
-    write(b"NR", Packet::NR(first(3)), b"one");
+fn texts<W: Write>(out: &mut W) -> io::Result<()> {
+    write(out, b"TX", Packet::TX(first(2)), b"hi")?;
+    write(out, b"RI", Packet::RI(first(3)), b"*.*")?;
+    write(out, b"CN with no reason", Packet::CN(first(0)), b"")?;
+    write(out, b"NR", Packet::NR(first(3)), b"one")?;
     write(
+        out,
         b"NR without a resume's last zero",
         Packet::NR(first(4)),
         b"R\x0044",
-    );
+    )?;
     write(
+        out,
         b"NR that would read as a resume",
         Packet::NR(first(5)),
         b"R\x0044\x00",
-    );
+    )?;
     write_258(
+        out,
         b"the same into 258 bytes",
         Packet::NR(first(5)),
         b"R\x0044\x00",
-    );
-    write_258(b"TX into 258 bytes", Packet::TX(first(2)), b"hi");
+    )?;
+    write_258(out, b"TX into 258 bytes", Packet::TX(first(2)), b"hi")
 }
 
-fn long_texts() {
+fn long_texts<W: Write>(out: &mut W) -> io::Result<()> {
     let text = [b'x'; 256];
-    write(b"TX of 255 bytes", Packet::TX(first(255)), &text);
-    write(b"TX of 256 bytes", Packet::TX(first(256)), &text);
-    write(b"RI of 255 bytes", Packet::RI(first(255)), &text);
-    write(b"RI of 256 bytes", Packet::RI(first(256)), &text);
-    write(b"CN of 256 bytes", Packet::CN(first(256)), &text);
+    write(out, b"TX of 255 bytes", Packet::TX(first(255)), &text)?;
+    write(out, b"TX of 256 bytes", Packet::TX(first(256)), &text)?;
+    write(out, b"RI of 255 bytes", Packet::RI(first(255)), &text)?;
+    write(out, b"RI of 256 bytes", Packet::RI(first(256)), &text)?;
+    write(out, b"CN of 256 bytes", Packet::CN(first(256)), &text)
 }
 
-fn write_hd(label: &[u8], name: &[u8], size: u32) {
+fn write_hd<W: Write>(out: &mut W, label: &[u8], name: &[u8], size: u32) -> io::Result<()> {
     let header = Header {
         name: first(name.len()),
         size,
         stamp: Stamp::Absent,
     };
-    write(label, Packet::HD(header), name);
+    write(out, label, Packet::HD(header), name)
 }
 
-fn headers() {
-    write_hd(b"HD", b"lot7.csv", 300);
-    write_hd(b"HD of no name", b"", 300);
-    write_hd(b"HD of a name with a slash", b"lot/7.csv", 300);
+fn headers<W: Write>(out: &mut W) -> io::Result<()> {
+    write_hd(out, b"HD", b"lot7.csv", 300)?;
+    write_hd(out, b"HD of no name", b"", 300)?;
+    write_hd(out, b"HD of a name with a slash", b"lot/7.csv", 300)?;
     write_hd(
+        out,
         b"HD of a name of 64",
         b"0123456789abcdef0123456789abcdef0123456789abcdef0123456789abcdef",
         300,
-    );
+    )?;
     write_hd(
+        out,
         b"HD of a name of 65",
         b"0123456789abcdef0123456789abcdef0123456789abcdef0123456789abcdefg",
         300,
-    );
-    write_hd(b"HD of 99999999", b"lot7.csv", 99_999_999);
-    write_hd(b"HD of 100000000", b"lot7.csv", 100_000_000);
+    )?;
+    write_hd(out, b"HD of 99999999", b"lot7.csv", 99_999_999)?;
+    write_hd(out, b"HD of 100000000", b"lot7.csv", 100_000_000)
 }
 
-fn write_re(label: &[u8], position: u32) {
+fn write_re<W: Write>(out: &mut W, label: &[u8], position: u32) -> io::Result<()> {
     write(
+        out,
         label,
         Packet::RE(Resume {
             position,
             checked: false,
         }),
         b"",
-    );
+    )
 }
 
-fn write_dt(label: &[u8], len: usize, sound: bool) {
+fn write_dt<W: Write>(out: &mut W, label: &[u8], len: usize, sound: bool) -> io::Result<()> {
     let data = [b'x'; 257];
     write(
+        out,
         label,
         Packet::DT(Block {
             place: first(len),
             sound,
         }),
         &data,
-    );
+    )
 }
 
-fn others() {
-    write_re(b"RE from 99999999", 99_999_999);
-    write_re(b"RE from 100000000", 100_000_000);
-    write_dt(b"DT of 256 bytes", 256, true);
-    write_dt(b"DT of 257 bytes", 257, true);
-    write_dt(b"DT of no data", 0, true);
-    write_dt(b"DT whose checksum disagreed", 3, false);
+fn others<W: Write>(out: &mut W) -> io::Result<()> {
+    write_re(out, b"RE from 99999999", 99_999_999)?;
+    write_re(out, b"RE from 100000000", 100_000_000)?;
+    write_dt(out, b"DT of 256 bytes", 256, true)?;
+    write_dt(out, b"DT of 257 bytes", 257, true)?;
+    write_dt(out, b"DT of no data", 0, true)?;
+    write_dt(out, b"DT whose checksum disagreed", 3, false)?;
     let flaw = Flaw::NameOpen;
     let malformed = Packet::Malformed(Fault { flaw, offset: 0 });
-    write(b"a malformed header", malformed, b"");
-    write(b"a dropped byte", Packet::Dropped(1), b"");
-    write(b"an unfinished packet", Packet::Open, b"");
+    write(out, b"a malformed header", malformed, b"")?;
+    write(out, b"a dropped byte", Packet::Dropped(1), b"")?;
+    write(out, b"an unfinished packet", Packet::Open, b"")
 }
 
 // ---- Data handed back
 
-fn show_data(label: &[u8], capture: &[u8], checked: bool) {
-    put(b"data of ");
-    put(label);
-    put(b": [");
-    put_bytes(packet_reader::data_of(capture, checked));
-    put(b"]\n");
+fn show_data<W: Write>(out: &mut W, label: &[u8], capture: &[u8], checked: bool) -> io::Result<()> {
+    put(out, b"data of ")?;
+    put(out, label)?;
+    put(out, b": [")?;
+    put_bytes(out, packet_reader::data_of(capture, checked))?;
+    put(out, b"]\n")
 }
 
-fn data() {
-    show_data(b"SI", b"\x05\x01\x06\x01", false);
-    show_data(b"RI", b"\x05\x02\x03*.*\x05\x01", false);
-    show_data(b"HD", b"\x01\x0Blot7.csv\x003\x00\x02\x03ABC", false);
-    show_data(b"DT", b"\x02\x03ABC\x03\x01", false);
-    show_data(b"DT in YappC", b"\x02\x03ABC\xC6\x03\x01", true);
-    show_data(b"a DT without its last byte", b"\x02\x03AB", false);
-    show_data(b"two bytes that are dropped", b"\x06\x07ABC", false);
+fn data<W: Write>(out: &mut W) -> io::Result<()> {
+    show_data(out, b"SI", b"\x05\x01\x06\x01", false)?;
+    show_data(out, b"RI", b"\x05\x02\x03*.*\x05\x01", false)?;
+    show_data(out, b"HD", b"\x01\x0Blot7.csv\x003\x00\x02\x03ABC", false)?;
+    show_data(out, b"DT", b"\x02\x03ABC\x03\x01", false)?;
+    show_data(out, b"DT in YappC", b"\x02\x03ABC\xC6\x03\x01", true)?;
+    show_data(out, b"a DT without its last byte", b"\x02\x03AB", false)?;
+    show_data(out, b"two bytes that are dropped", b"\x06\x07ABC", false)
 }
 
-fn main() {
-    texts();
-    long_texts();
-    headers();
-    others();
-    data();
+fn main(rt: HostRuntime) -> io::Result<()> {
+    let out = &mut rt.stdout();
+    texts(out)?;
+    long_texts(out)?;
+    headers(out)?;
+    others(out)?;
+    data(out)
 }

@@ -14,11 +14,12 @@
 #![tactic(auto)]
 
 use calls::Status;
-use libc::STDIN_FILENO;
 use script::printing::{
     put, put_answer, put_number, put_outcome, put_status, put_stored, put_text, put_touched,
 };
 use script::reading::{before, behind, decode, is_word, number, place_in, playable, word};
+use std::io;
+use std::io::{Read, Write};
 use yapp::ReceiverState;
 use yapp_receiver::{Receiver, ReceiverAnswer};
 
@@ -30,48 +31,49 @@ struct Play {
 
 // ---- Printing
 
-fn put_header(whole: bool) {
+fn put_header<W: Write>(out: &mut W, whole: bool) -> io::Result<()> {
     if whole {
-        put(b" RH whole");
+        put(out, b" RH whole")
     } else {
-        put(b" RH");
+        put(out, b" RH")
     }
 }
 
-fn put_state(state: ReceiverState) {
+fn put_state<W: Write>(out: &mut W, state: ReceiverState) -> io::Result<()> {
     match state {
-        ReceiverState::R => put(b" R"),
-        ReceiverState::RH { whole } => put_header(whole),
-        ReceiverState::RD => put(b" RD"),
-        ReceiverState::CW { outcome } => put_outcome(b" CW ", outcome),
-        ReceiverState::Ended { outcome } => put_outcome(b" ended ", outcome),
+        ReceiverState::R => put(out, b" R"),
+        ReceiverState::RH { whole } => put_header(out, whole),
+        ReceiverState::RD => put(out, b" RD"),
+        ReceiverState::CW { outcome } => put_outcome(out, b" CW ", outcome),
+        ReceiverState::Ended { outcome } => put_outcome(out, b" ended ", outcome),
     }
 }
 
-fn put_mode(checked: bool) {
+fn put_mode<W: Write>(out: &mut W, checked: bool) -> io::Result<()> {
     if checked {
-        put(b" YappC");
+        put(out, b" YappC")?;
     }
+    Ok(())
 }
 
-fn put_end(status: Status, m: Receiver) {
-    put(b" ->");
-    put_status(status);
-    put_state(m.state());
-    put_mode(m.checked());
+fn put_end<W: Write>(out: &mut W, status: Status, m: Receiver) -> io::Result<()> {
+    put(out, b" ->")?;
+    put_status(out, status)?;
+    put_state(out, m.state())?;
+    put_mode(out, m.checked())
 }
 
-fn put_counts(taken: usize, sent: &[u8], stored: usize) {
-    put_number(b"; taken ", taken);
-    put_text(b"; sent ", sent);
-    put_number(b"; stored ", stored);
+fn put_counts<W: Write>(out: &mut W, taken: usize, sent: &[u8], stored: usize) -> io::Result<()> {
+    put_number(out, b"; taken ", taken)?;
+    put_text(out, b"; sent ", sent)?;
+    put_number(out, b"; stored ", stored)
 }
 
-fn show(got: ReceiverAnswer, reply: &[u8]) {
+fn show<W: Write>(out: &mut W, got: ReceiverAnswer, reply: &[u8]) -> io::Result<()> {
     let status = got.status;
-    put_end(status, got.receiver);
-    put_counts(got.taken, fields::part(reply, 0, got.sent), got.stored);
-    put_touched(b"; reply", reply);
+    put_end(out, status, got.receiver)?;
+    put_counts(out, got.taken, fields::part(reply, 0, got.sent), got.stored)?;
+    put_touched(out, b"; reply", reply)
 }
 
 // ---- Beginnings
@@ -99,28 +101,28 @@ fn begin_fresh(line: &[u8]) -> Receiver {
     )
 }
 
-fn put_begun(m: Receiver) {
-    put(b" ->");
-    put_state(m.state());
+fn put_begun<W: Write>(out: &mut W, m: Receiver) -> io::Result<()> {
+    put(out, b" ->")?;
+    put_state(out, m.state())
 }
 
 // With no record the area is filled anew, with one it stays.
-fn begin(p: Play, which: usize, line: &[u8]) -> Play {
+fn begin<W: Write>(out: &mut W, p: Play, which: usize, line: &[u8]) -> io::Result<Play> {
     let old = p.area;
     if which == 5 {
         let resumed = begin_resume(line);
-        put_begun(resumed);
-        return Play {
+        put_begun(out, resumed)?;
+        return Ok(Play {
             receiver: resumed,
             area: old,
-        };
+        });
     }
     let receiver = begin_fresh(line);
-    put_begun(receiver);
-    Play {
+    put_begun(out, receiver)?;
+    Ok(Play {
         receiver,
         area: [0xEE; 320],
-    }
+    })
 }
 
 // ---- Calls
@@ -140,66 +142,78 @@ fn call_receiver(
     }
 }
 
-fn hand(p: Play, which: usize, chunk: &[u8], reply: &mut [u8]) -> Play {
+fn hand<W: Write>(
+    out: &mut W,
+    p: Play,
+    which: usize,
+    chunk: &[u8],
+    reply: &mut [u8],
+) -> io::Result<Play> {
     let old = p.area;
     let mut area = p.area;
     let got = call_receiver(p.receiver, which, chunk, &mut area, reply);
-    show(got, reply);
-    put_stored(&old, &area);
+    show(out, got, reply)?;
+    put_stored(out, &old, &area)?;
     let receiver = got.receiver;
-    Play { receiver, area }
+    Ok(Play { receiver, area })
 }
 
 // A call with the bytes that a word says.
-fn call(p: Play, which: usize, text: &[u8], reply: &mut [u8]) -> Play {
+fn call<W: Write>(
+    out: &mut W,
+    p: Play,
+    which: usize,
+    text: &[u8],
+    reply: &mut [u8],
+) -> io::Result<Play> {
     let mut chunk = [0u8; 1200];
     let n = decode(text, &mut chunk);
-    hand(p, which, fields::part(&chunk, 0, n), reply)
+    hand(out, p, which, fields::part(&chunk, 0, n), reply)
 }
 
 // The record into 81 bytes, and into 80.
-fn put_record(m: Receiver) {
+fn put_record<W: Write>(out: &mut W, m: Receiver) -> io::Result<()> {
     let mut buf = [0xEE; 81];
     let got = m.record(&mut buf);
-    put_answer(got, &buf);
+    put_answer(out, got, &buf)
 }
 
-fn put_record_80(m: Receiver) {
+fn put_record_80<W: Write>(out: &mut W, m: Receiver) -> io::Result<()> {
     let mut buf = [0xEE; 80];
     let got = m.record(&mut buf);
-    put_answer(got, &buf);
+    put_answer(out, got, &buf)
 }
 
 // What a line says to do: a call, 0 to 3; a beginning, 4 and 5; to show the record, 6 and 7; nothing, 8.
-fn act(p: Play, line: &[u8], reply: &mut [u8]) -> Play {
+fn act<W: Write>(out: &mut W, p: Play, line: &[u8], reply: &mut [u8]) -> io::Result<Play> {
     let which = place_in(b"leave bytes timer stop fresh resume record 80", 8, line);
     if which < 4 {
-        return call(p, which, word(line, 1), reply);
+        return call(out, p, which, word(line, 1), reply);
     }
     if which < 6 {
-        return begin(p, which, line);
+        return begin(out, p, which, line);
     }
     if which == 6 {
-        put_record(p.receiver);
+        put_record(out, p.receiver)?;
     }
     if which == 7 {
-        put_record_80(p.receiver);
+        put_record_80(out, p.receiver)?;
     }
-    p
+    Ok(p)
 }
 
 // A line with a reply buffer of 258 bytes, and with one of 259.
-fn act_258(p: Play, line: &[u8]) -> Play {
+fn act_258<W: Write>(out: &mut W, p: Play, line: &[u8]) -> io::Result<Play> {
     let mut reply = [0xEE; 258];
-    act(p, line, &mut reply)
+    act(out, p, line, &mut reply)
 }
 
-fn turn(p: Play, line: &[u8]) -> Play {
+fn turn<W: Write>(out: &mut W, p: Play, line: &[u8]) -> io::Result<Play> {
     if is_word(line, 0, b"258") {
-        return act_258(p, behind(line, b' '));
+        return act_258(out, p, behind(line, b' '));
     }
     let mut reply = [0xEE; 259];
-    act(p, line, &mut reply)
+    act(out, p, line, &mut reply)
 }
 
 fn start() -> Play {
@@ -209,22 +223,25 @@ fn start() -> Play {
     }
 }
 
-fn run(script: &[u8]) {
+fn run<W: Write>(out: &mut W, script: &[u8]) -> io::Result<()> {
     let mut p = start();
     let mut rest = script;
     while 0 < rest.len() {
         let line = before(rest, b'\n');
-        put(line);
-        p = turn(p, line);
-        put(b"\n");
+        put(out, line)?;
+        p = turn(out, p, line)?;
+        put(out, b"\n")?;
         let next = behind(rest, b'\n');
         rest = next;
     }
+    Ok(())
 }
 
 // One byte more than a script may have, so that a longer one shows.
-fn main() {
-    let mut script = [0u8; 16385];
-    let n = io::read_full(STDIN_FILENO, &mut script);
-    run(playable(fields::part(&script, 0, n)));
+fn main(rt: HostRuntime) -> io::Result<()> {
+    let mut script = Vec::new(rt.alloc());
+    rt.stdin().take(16_385).read_to_end(&mut script)?;
+    let out = &mut rt.stdout();
+    let played = playable(out, &script)?;
+    run(out, played)
 }

@@ -13,69 +13,72 @@
 
 use calls::Status;
 use fields::Stamp;
-use libc::STDIN_FILENO;
 use numbers::{Number, digit_reader};
 use script::printing::{put, put_number, put_outcome, put_status, put_text, put_touched};
 use script::reading::{before, behind, decode, is_word, number, place_in, playable, word};
+use std::io;
+use std::io::{Read, Write};
 use yapp::SenderState;
 use yapp_sender::{Sender, SenderAnswer};
 
 // ---- Printing
 
-fn put_start(begun: bool, timeouts: u8) {
+fn put_start<W: Write>(out: &mut W, begun: bool, timeouts: u8) -> io::Result<()> {
     if begun {
-        put_number(b" S ", timeouts as usize);
+        put_number(out, b" S ", timeouts as usize)
     } else {
-        put(b" S -");
+        put(out, b" S -")
     }
 }
 
-fn put_state(state: SenderState) {
+fn put_state<W: Write>(out: &mut W, state: SenderState) -> io::Result<()> {
     match state {
-        SenderState::S { begun, timeouts } => put_start(begun, timeouts),
-        SenderState::SH => put(b" SH"),
-        SenderState::SD { at } => put_number(b" SD ", at as usize),
-        SenderState::SE => put(b" SE"),
-        SenderState::ST => put(b" ST"),
-        SenderState::CW { outcome } => put_outcome(b" CW ", outcome),
-        SenderState::Ended { outcome } => put_outcome(b" ended ", outcome),
+        SenderState::S { begun, timeouts } => put_start(out, begun, timeouts),
+        SenderState::SH => put(out, b" SH"),
+        SenderState::SD { at } => put_number(out, b" SD ", at as usize),
+        SenderState::SE => put(out, b" SE"),
+        SenderState::ST => put(out, b" ST"),
+        SenderState::CW { outcome } => put_outcome(out, b" CW ", outcome),
+        SenderState::Ended { outcome } => put_outcome(out, b" ended ", outcome),
     }
 }
 
-fn put_mode(checked: bool) {
+fn put_mode<W: Write>(out: &mut W, checked: bool) -> io::Result<()> {
     if checked {
-        put(b" YappC");
+        put(out, b" YappC")?;
     }
+    Ok(())
 }
 
-fn put_end(status: Status, m: Sender) {
-    put(b" ->");
-    put_status(status);
-    put_state(m.state());
-    put_mode(m.checked());
+fn put_end<W: Write>(out: &mut W, status: Status, m: Sender) -> io::Result<()> {
+    put(out, b" ->")?;
+    put_status(out, status)?;
+    put_state(out, m.state())?;
+    put_mode(out, m.checked())
 }
 
-fn put_counts(taken: usize, sent: &[u8], shown: &[u8]) {
-    put_number(b"; taken ", taken);
-    put_text(b"; sent ", sent);
-    put_text(b"; shown ", shown);
+fn put_counts<W: Write>(out: &mut W, taken: usize, sent: &[u8], shown: &[u8]) -> io::Result<()> {
+    put_number(out, b"; taken ", taken)?;
+    put_text(out, b"; sent ", sent)?;
+    put_text(out, b"; shown ", shown)
 }
 
-fn show(got: SenderAnswer, reply: &[u8]) {
+fn show<W: Write>(out: &mut W, got: SenderAnswer, reply: &[u8]) -> io::Result<()> {
     let pending = got.sender.pending();
     let status = got.status;
-    put_end(status, got.sender);
+    put_end(out, status, got.sender)?;
     put_counts(
+        out,
         got.taken,
         fields::part(reply, 0, got.sent),
         fields::bytes_at(&pending, got.shown),
-    );
-    put_touched(b"; reply", reply);
+    )?;
+    put_touched(out, b"; reply", reply)
 }
 
-fn put_begun(m: Sender) {
-    put(b" ->");
-    put_state(m.state());
+fn put_begun<W: Write>(out: &mut W, m: Sender) -> io::Result<()> {
+    put(out, b" ->")?;
+    put_state(out, m.state())
 }
 
 // ---- Beginnings
@@ -121,12 +124,19 @@ fn call_sender(
 }
 
 // A call with the bytes that a word says.
-fn call(m: Sender, which: usize, text: &[u8], file: &[u8], reply: &mut [u8]) -> Sender {
+fn call<W: Write>(
+    out: &mut W,
+    m: Sender,
+    which: usize,
+    text: &[u8],
+    file: &[u8],
+    reply: &mut [u8],
+) -> io::Result<Sender> {
     let mut chunk = [0u8; 1200];
     let n = decode(text, &mut chunk);
     let got = call_sender(m, which, fields::part(&chunk, 0, n), file, reply);
-    show(got, reply);
-    got.sender
+    show(out, got, reply)?;
+    Ok(got.sender)
 }
 
 // What a line says to do: a call, 0 to 3; a beginning, 4; nothing, 5.
@@ -142,38 +152,44 @@ fn load(line: &[u8], size: usize, file: &mut [u8]) -> usize {
     size
 }
 
-fn act(m: Sender, line: &[u8], file: &[u8], reply: &mut [u8]) -> Sender {
+fn act<W: Write>(
+    out: &mut W,
+    m: Sender,
+    line: &[u8],
+    file: &[u8],
+    reply: &mut [u8],
+) -> io::Result<Sender> {
     let which = call_of(line);
     if which < 4 {
-        return call(m, which, word(line, 1), file, reply);
+        return call(out, m, which, word(line, 1), file, reply);
     }
     if which == 4 {
         let begun = begin(line);
-        put_begun(begun);
-        return begun;
+        put_begun(out, begun)?;
+        return Ok(begun);
     }
-    m
+    Ok(m)
 }
 
 // A line with a reply buffer of 258 bytes, and with one of 259.
-fn act_258(m: Sender, line: &[u8], file: &[u8]) -> Sender {
+fn act_258<W: Write>(out: &mut W, m: Sender, line: &[u8], file: &[u8]) -> io::Result<Sender> {
     let mut reply = [0xEE; 258];
-    act(m, line, file, &mut reply)
+    act(out, m, line, file, &mut reply)
 }
 
-fn turn(m: Sender, line: &[u8], file: &[u8]) -> Sender {
+fn turn<W: Write>(out: &mut W, m: Sender, line: &[u8], file: &[u8]) -> io::Result<Sender> {
     if is_word(line, 0, b"258") {
-        return act_258(m, behind(line, b' '), file);
+        return act_258(out, m, behind(line, b' '), file);
     }
     let mut reply = [0xEE; 259];
-    act(m, line, file, &mut reply)
+    act(out, m, line, file, &mut reply)
 }
 
 fn start() -> Sender {
     Sender::begin(b"", 0, 1, Stamp::Absent, false)
 }
 
-fn run(script: &[u8]) {
+fn run<W: Write>(out: &mut W, script: &[u8]) -> io::Result<()> {
     let mut space = [0u8; 1200];
     let file: &mut [u8] = &mut space;
     let mut m = start();
@@ -181,18 +197,21 @@ fn run(script: &[u8]) {
     let mut rest = script;
     while 0 < rest.len() {
         let line = before(rest, b'\n');
-        put(line);
+        put(out, line)?;
         size = load(line, size, file);
-        m = turn(m, line, fields::part(file, 0, size));
-        put(b"\n");
+        m = turn(out, m, line, fields::part(file, 0, size))?;
+        put(out, b"\n")?;
         let next = behind(rest, b'\n');
         rest = next;
     }
+    Ok(())
 }
 
 // One byte more than a script may have, so that a longer one shows.
-fn main() {
-    let mut script = [0u8; 16385];
-    let n = io::read_full(STDIN_FILENO, &mut script);
-    run(playable(fields::part(&script, 0, n)));
+fn main(rt: HostRuntime) -> io::Result<()> {
+    let mut script = Vec::new(rt.alloc());
+    rt.stdin().take(16_385).read_to_end(&mut script)?;
+    let out = &mut rt.stdout();
+    let played = playable(out, &script)?;
+    run(out, played)
 }

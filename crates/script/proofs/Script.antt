@@ -14,7 +14,7 @@ use Rattle.fields.specs.Buffer.{over, appended, appended_end}
 use Rattle.numbers.specs.Reading.{read_size}
 use Rattle.fields.proofs.Lists.{le-or-lt, eq-or-not, drop-one}
 use Rattle.fields.proofs.Buffer.{append-fits, append-short, over-over, length_over}
-use Rattle.script.specs.Script.{behind, word_of, value_of, number_of, nibble, byte_of, first_of, left_behind, decoded, decoded_count, decoded_into, place_in, line_with, lines_fit, playable}
+use Rattle.script.specs.Script.{behind, word_of, value_of, number_of, nibble, byte_of, first_of, left_behind, decoded, decoded_count, decoded_into, place_in, line_with, lines_fit, playable, script_too_long, line_too_long, refusal}
 
 -- `behind`: r is s from the first x on, t is r without it
 pub behind-is : (x n : ℕ) (s r t : List ℕ) → n ≡ length (up_to x s) → r ≡ take (length s) (drop n s) → t ≡ take (length r) (drop 1 r)
@@ -229,3 +229,15 @@ module _ (s : List ℕ) where
   pub playable-whole : length s ≤ 16384 → lines_fit 0 s ≡ true → s ≡ playable s
   unfolding playable
   playable-whole h e = rw (le-leb (length s) 16384 h, e)
+
+  pub refusal-long : 16384 < length s → script_too_long ≡ refusal s
+  unfolding refusal
+  refusal-long h = rw (lt-leb (length s) 16384 h)
+
+  pub refusal-line : length s ≤ 16384 → lines_fit 0 s ≡ false → line_too_long ≡ refusal s
+  unfolding refusal
+  refusal-line h e = rw (le-leb (length s) 16384 h, e)
+
+  pub refusal-none : length s ≤ 16384 → lines_fit 0 s ≡ true → [] ≡ refusal s
+  unfolding refusal
+  refusal-none h e = rw (le-leb (length s) 16384 h, e)

@@ -1,5 +1,5 @@
 -- A script's words, numbers and bytes, and which scripts are played.
-use Rattle.std.specs.Prelude.{ℕ, zero, suc, ◌+◌, ◌-◌, ◌*◌, Bool, true, false, ◌&&◌, List, [], ◌∷◌, ◌++◌, length, take, drop, get_or, leb, eqb}
+use Rattle.std.specs.Prelude.{ℕ, zero, suc, ◌+◌, ◌-◌, ◌*◌, Bool, true, false, ◌&&◌, List, [], ◌∷◌, ◌++◌, length, take, drop, get_or, leb, eqb, codes}
 use Rattle.fields.specs.Pick.{pick}
 use Rattle.fields.specs.Lists.{part, same, up_to}
 use Rattle.fields.specs.Buffer.{over}
@@ -71,3 +71,14 @@ lines_fit n (c ∷ s) = pick (leb (line_with n c) 1200) (lines_fit (line_with n 
 -- a script of at most 16,384 bytes whose lines fit, and none of any other
 unfoldable pub playable : List ℕ → List ℕ
 playable s = pick (leb (length s) 16384 && lines_fit 0 s) s []
+
+-- the lines that are printed of a script that is not played
+abbrev pub script_too_long : List ℕ
+script_too_long = codes "the script is too long: it has more than 16384 bytes\n"
+
+abbrev pub line_too_long : List ℕ
+line_too_long = codes "a line of the script is too long: it has more than 1200 bytes\n"
+
+-- which of them is
+unfoldable pub refusal : List ℕ → List ℕ
+refusal s = pick (leb (length s) 16384) (pick (lines_fit 0 s) [] line_too_long) script_too_long

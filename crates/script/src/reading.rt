@@ -1,12 +1,16 @@
 // Scripts and lists of cases: lines, words, numbers, and bytes where `<0D>` is the byte 0D.
-ghost use Rattle.std.specs.Prelude.{◌≡◌, ◌-◌, ◌≤◌, ◌<◌, length};
+ghost use Rattle.std.specs.Prelude.{◌≡◌, ◌-◌, ◌≤◌, ◌<◌, length, IfOk, OnOk};
+ghost use Rattle.std.specs.Io.KnownBytes.{Appends};
 ghost use Rattle.fields.specs.Lists.{same, up_to};
 ghost use Rattle.fields.specs.Buffer.{appended, appended_end};
 ghost use Rattle.numbers.specs.Reading.{read_size};
-ghost use Rattle.script.specs.Script.{behind as behind_of, word_of, value_of, number_of, nibble as nibble_of, byte_of, first_of, left_behind, decoded_count, decoded_into, place_in, line_with, lines_fit, playable as playable_of};
+ghost use Rattle.script.specs.Script.{behind as behind_of, word_of, value_of, number_of, nibble as nibble_of, byte_of, first_of, left_behind, decoded_count, decoded_into, place_in, line_with, lines_fit, playable as playable_of, refusal};
 
+use crate::printing::put;
 use fields::{buffers, names};
 use numbers::{Number, digit_reader};
+use std::io;
+use std::io::Write;
 
 // The most bytes that a line of a script has. Space for what a word says has as many.
 const LINE: usize = 1_200;
@@ -175,16 +179,23 @@ fn lines_fit(s: &[u8]) -> bool
 }
 
 // The script where it is short enough to be played whole; else none of it, and a line says why.
-pub fn playable(script: &[u8]) -> &[u8]
-    ensures { result.now ≡ playable_of script.now }
+pub fn playable<'a, W: Write>(out: &mut W, script: &'a [u8]) -> io::Result<&'a [u8]>
+    ensures script { IfOk result (λ s. s.now ≡ playable_of script.now) }
+    ensures line { OnOk result (Appends (W.contents out.old) (W.contents out.new) (refusal script.now)) }
 {
     if SCRIPT < script.len() {
-        crate::printing::put(b"the script is too long: it has more than 16384 bytes\n");
-        return fields::part(script, 0, 0);
+        put(
+            out,
+            b"the script is too long: it has more than 16384 bytes\n",
+        )?;
+        return Ok(fields::part(script, 0, 0));
     }
     if lines_fit(script) {
-        return script;
+        return Ok(script);
     }
-    crate::printing::put(b"a line of the script is too long: it has more than 1200 bytes\n");
-    fields::part(script, 0, 0)
+    put(
+        out,
+        b"a line of the script is too long: it has more than 1200 bytes\n",
+    )?;
+    Ok(fields::part(script, 0, 0))
 }

@@ -1,0 +1,14 @@
+-- `run_crc::hex_digit` meets its contract.
+-- Assumes nothing.
+use native.Mathlib.Omega.{arith}
+use borrow.Author.Tests.{lt-ltb, le-ltb}
+use Rattle.run_crc.specs.Text.{hex_digit}
+use Rattle.run_crc.proofs.hex_digit.Goals as goal
+
+pub returns-then-n-lt10 : goal.returns-then-n-lt10
+unfolding hex_digit
+returns-then-n-lt10 c = simp (lt-ltb _ _ c.if-n-lt10.true)
+
+pub returns-else-n-lt10 : goal.returns-else-n-lt10
+unfolding hex_digit
+returns-else-n-lt10 c = simp (le-ltb _ _ c.if-n-lt10.false) (omega arith)
