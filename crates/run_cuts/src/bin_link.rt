@@ -1,5 +1,5 @@
 // A #BIN# sender and a #BIN# receiver, and the link between them: what came of a frame that is cut is handed over as a frame.
-ghost use Rattle.std.specs.Prelude.{◌≡◌};
+ghost use Rattle.std.specs.Prelude.{◌≡◌, true, IfOk, OnErr};
 ghost use Rattle.bin_receiver.specs.Receiver.{receive as receive_of};
 ghost use Rattle.run_cuts.specs.BinLink.{receiver_of, begin as begin_of, send as send_of, turn as turn_of, sender_number, receiver_number, saved_after, session as session_of};
 
@@ -11,6 +11,8 @@ use bin_sender::{Sender, SenderAnswer};
 use calls::outcomes;
 use crc::Reading;
 use script::printing::put_text;
+use std::io;
+use std::io::Write;
 
 // The reading of the CRC that each end is set to.
 #[derive(Clone, Copy)]
@@ -50,12 +52,15 @@ fn begin(before: Saved, bytes: usize, block: usize, readings: Readings, size: us
 }
 
 // A frame of the file; what is sent in the first turn is the line.
-fn put_frame(is_shown: bool, turn: usize, frame: &[u8]) {
+fn put_frame<W: Write>(out: &mut W, is_shown: bool, turn: usize, frame: &[u8]) -> io::Result<()>
+    ensures { OnErr result (is_shown ≡ true) }
+{
     if is_shown {
         if 0 < turn {
-            put_text(b" ", frame);
+            put_text(out, b" ", frame)?;
         }
     }
+    Ok(())
 }
 
 // The sender gets what came of the answer; where nothing was answered, it may send.
@@ -76,8 +81,15 @@ fn take(m: Receiver, frame: &[u8], area: &mut [u8; 320], out: &mut [u8; 259]) ->
 }
 
 // The turn of this number, from 0 on.
-fn turn(e: Ends, is_shown: bool, number: usize, file: &[u8]) -> Ends
-    ensures { result ≡ turn_of file.now e }
+fn turn<W: Write>(
+    out: &mut W,
+    e: Ends,
+    is_shown: bool,
+    number: usize,
+    file: &[u8],
+) -> io::Result<Ends>
+    ensures ends { IfOk result (λ r. r ≡ turn_of file.now e) }
+    ensures err { OnErr result (is_shown ≡ true) }
 {
     let l = e.link;
     let mut area = l.area;
@@ -87,12 +99,12 @@ fn turn(e: Ends, is_shown: bool, number: usize, file: &[u8]) -> Ends
     let a = send(e.sender, l.answered, heard, file, &mut to);
     let left = link::less(l.left, l.answered);
     let frame = link::passed(&to, a.sent, left);
-    put_frame(is_shown, number, frame);
+    put_frame(out, is_shown, number, frame)?;
     let b = take(e.receiver, frame, &mut area, &mut back);
     let sender = a.sender;
     let receiver = b.receiver;
     let rest = link::less(left, a.sent);
-    Ends {
+    Ok(Ends {
         sender,
         receiver,
         link: Link {
@@ -102,7 +114,7 @@ fn turn(e: Ends, is_shown: bool, number: usize, file: &[u8]) -> Ends
             answered: b.sent,
             left: rest,
         },
-    }
+    })
 }
 
 fn sender_number(state: SenderState) -> u8
@@ -145,21 +157,24 @@ fn saved_after(e: Ends) -> Saved
 
 // Goes on from what a session left, with frames of so many bytes. So many bytes pass before the link breaks.
 // The line, a turn to hear what came of it, and a turn for each frame: a file has at most 27 bytes.
-pub fn session(
+// It fails only where a frame is to be shown and is not written.
+pub fn session<W: Write>(
+    out: &mut W,
     before: Saved,
     bytes: usize,
     block: usize,
     readings: Readings,
     is_shown: bool,
     file: &[u8],
-) -> Saved
-    ensures { result ≡ session_of before bytes block readings file.now }
+) -> io::Result<Saved>
+    ensures saved { IfOk result (λ s. s ≡ session_of before bytes block readings file.now) }
+    ensures err { OnErr result (is_shown ≡ true) }
 {
     let mut e = begin(before, bytes, block, readings, file.len());
     let mut i: usize = 0;
     while i < 29 {
-        e = turn(e, is_shown, i, file);
+        e = turn(out, e, is_shown, i, file)?;
         i += 1;
     }
-    saved_after(e)
+    Ok(saved_after(e))
 }

@@ -17,6 +17,8 @@ use bin_link::Readings;
 use crc::Reading;
 use link::Saved;
 use script::printing::{put, put_number, put_text};
+use std::io;
+use std::io::Write;
 
 mod bin_link;
 mod link;
@@ -41,12 +43,18 @@ fn set_to(reading: Reading) -> Readings {
     }
 }
 
-fn session(protocol: Protocol, before: Saved, bytes: usize, file: &[u8]) -> Saved {
+fn session<W: Write>(
+    out: &mut W,
+    protocol: Protocol,
+    before: Saved,
+    bytes: usize,
+    file: &[u8],
+) -> io::Result<Saved> {
     match protocol {
-        Protocol::Yapp => yapp_link::session(before, bytes, false, file),
-        Protocol::YappC => yapp_link::session(before, bytes, true, file),
+        Protocol::Yapp => Ok(yapp_link::session(before, bytes, false, file)),
+        Protocol::YappC => Ok(yapp_link::session(before, bytes, true, file)),
         Protocol::Bin(reading) => {
-            bin_link::session(before, bytes, 8, set_to(reading), false, file)
+            bin_link::session(out, before, bytes, 8, set_to(reading), false, file)
         }
     }
 }
@@ -61,13 +69,13 @@ fn told(s: Saved) -> usize {
     link::kept(s) + 1
 }
 
-fn show(at: usize, s: Saved) {
-    put_number(b"from ", at);
+fn show<W: Write>(out: &mut W, at: usize, s: Saved) -> io::Result<()> {
+    put_number(out, b"from ", at)?;
     if s.len == 0 {
-        return put(b": no record\n");
+        return put(out, b": no record\n");
     }
-    put_number(b": kept ", link::kept(s));
-    put(b"\n");
+    put_number(out, b": kept ", link::kept(s))?;
+    put(out, b"\n")
 }
 
 // What came of a cut: what its record told, and whether all was whole.
@@ -78,49 +86,67 @@ struct Cut {
 }
 
 // Goes on where the first session was cut, with its record if there is one.
-fn is_resumed(protocol: Protocol, s: Saved, file: &[u8]) -> bool {
+fn is_resumed<W: Write>(
+    out: &mut W,
+    protocol: Protocol,
+    s: Saved,
+    file: &[u8],
+) -> io::Result<bool> {
     if link::is_sound(s, file) {
-        return link::is_whole(session(protocol, s, ALL, file), file);
+        return Ok(link::is_whole(session(out, protocol, s, ALL, file)?, file));
     }
-    false
+    Ok(false)
 }
 
 // The session cut behind this many bytes, and resumed. Shows the record where it told something else before.
-fn try_cut(first: Protocol, then: Protocol, at: usize, before: usize, file: &[u8]) -> Cut {
-    let s = session(first, link::nothing(), at, file);
+fn try_cut<W: Write>(
+    out: &mut W,
+    first: Protocol,
+    then: Protocol,
+    at: usize,
+    before: usize,
+    file: &[u8],
+) -> io::Result<Cut> {
+    let s = session(out, first, link::nothing(), at, file)?;
     let now = told(s);
     if now != before {
-        show(at, s);
+        show(out, at, s)?;
     }
-    Cut {
+    Ok(Cut {
         told: now,
-        whole: is_resumed(then, s, file),
-    }
+        whole: is_resumed(out, then, s, file)?,
+    })
 }
 
-fn report(cuts: usize, whole: bool) {
-    put_number(b"", cuts);
+fn report<W: Write>(out: &mut W, cuts: usize, whole: bool) -> io::Result<()> {
+    put_number(out, b"", cuts)?;
     if whole {
-        put(b" cuts, all whole\n");
+        put(out, b" cuts, all whole\n")
     } else {
-        put(b" cuts, not all whole\n");
+        put(out, b" cuts, not all whole\n")
     }
 }
 
 // The session has len bytes; it is cut before the first, and behind each.
-fn cuts(first: Protocol, then: Protocol, file: &[u8], len: usize)
+fn cuts<W: Write>(
+    out: &mut W,
+    first: Protocol,
+    then: Protocol,
+    file: &[u8],
+    len: usize,
+) -> io::Result<()>
     requires { len ≤ 1000 }
 {
     let mut before = ALL;
     let mut whole = true;
     let mut at = 0;
     while at <= len {
-        let c = try_cut(first, then, at, before, file);
+        let c = try_cut(out, first, then, at, before, file)?;
         before = c.told;
         whole = link::both(whole, c.whole);
         at += 1;
     }
-    report(at, whole);
+    report(out, at, whole)
 }
 
 // The numbers from 0 to 199, over and over.
@@ -141,30 +167,36 @@ fn number_behind(n: u8) -> u8 {
     0
 }
 
-fn cut_all(file: &[u8; 270]) {
-    put(b"YAPP: SI 2, RR 2, HD 23, RF 2, DT 102, 102, 72, EF 2, AF 2, ET 2, AT 2\n");
-    cuts(Protocol::Yapp, Protocol::Yapp, file, 313);
-    put(b"YappC: SI 2, RR 2, HD 23, RT 2, DT 103, 103, 73, EF 2, AF 2, ET 2, AT 2\n");
-    cuts(Protocol::YappC, Protocol::YappC, file, 316);
+fn cut_all<W: Write>(out: &mut W, file: &[u8; 270]) -> io::Result<()> {
+    put(
+        out,
+        b"YAPP: SI 2, RR 2, HD 23, RF 2, DT 102, 102, 72, EF 2, AF 2, ET 2, AT 2\n",
+    )?;
+    cuts(out, Protocol::Yapp, Protocol::Yapp, file, 313)?;
+    put(
+        out,
+        b"YappC: SI 2, RR 2, HD 23, RT 2, DT 103, 103, 73, EF 2, AF 2, ET 2, AT 2\n",
+    )?;
+    cuts(out, Protocol::YappC, Protocol::YappC, file, 316)
 }
 
-fn cut_bin(file: &[u8]) {
+fn cut_bin<W: Write>(out: &mut W, file: &[u8]) -> io::Result<()> {
     let bare = Protocol::Bin(Reading::Bare);
     let augmented = Protocol::Bin(Reading::Augmented);
-    put(b"#BIN#: line 34, OK 12, file 20\n");
-    cuts(bare, bare, file, 66);
-    put(b"#BIN#, augmented: line 33, OK 12, file 20\n");
-    cuts(augmented, augmented, file, 65);
-    put(b"#BIN#, resumed augmented: line 34, OK 12, file 20\n");
-    cuts(bare, augmented, file, 66);
+    put(out, b"#BIN#: line 34, OK 12, file 20\n")?;
+    cuts(out, bare, bare, file, 66)?;
+    put(out, b"#BIN#, augmented: line 33, OK 12, file 20\n")?;
+    cuts(out, augmented, augmented, file, 65)?;
+    put(out, b"#BIN#, resumed augmented: line 34, OK 12, file 20\n")?;
+    cuts(out, bare, augmented, file, 66)
 }
 
 // ---- Ends set to unlike readings
 
-fn put_numbers(s: Saved) {
-    put_number(b": sender ", s.sender as usize);
-    put_number(b", receiver ", s.receiver as usize);
-    put(b"\n");
+fn put_numbers<W: Write>(out: &mut W, s: Saved) -> io::Result<()> {
+    put_number(out, b": sender ", s.sender as usize)?;
+    put_number(out, b", receiver ", s.receiver as usize)?;
+    put(out, b"\n")
 }
 
 // The numbers of both ends as one.
@@ -173,96 +205,111 @@ fn numbers(s: Saved) -> usize {
 }
 
 // Goes on from so many kept bytes: the line has 34, the OK 12, and then those of the file pass. Shows how it ends where it ended otherwise before.
-fn try_apart(readings: Readings, kept: usize, before: usize, file: &[u8]) -> usize
+fn try_apart<W: Write>(
+    out: &mut W,
+    readings: Readings,
+    kept: usize,
+    before: usize,
+    file: &[u8],
+) -> io::Result<usize>
     requires { kept ≤ 1000 }
 {
     let s = session(
+        out,
         Protocol::Bin(Reading::Bare),
         link::nothing(),
         46 + kept,
         file,
-    );
-    let r = bin_link::session(s, ALL, 8, readings, false, file);
+    )?;
+    let r = bin_link::session(out, s, ALL, 8, readings, false, file)?;
     let now = numbers(r);
     if now != before {
-        put_number(b"from kept ", link::kept(s));
-        put_numbers(r);
+        put_number(out, b"from kept ", link::kept(s))?;
+        put_numbers(out, r)?;
     }
-    now
+    Ok(now)
 }
 
 // From no record, then from each kept count of a file of 20 bytes, and then with an empty file.
-fn apart(readings: Readings, file: &[u8]) {
-    put(b"no record");
-    put_numbers(bin_link::session(link::nothing(), ALL, 8, readings, false, file));
+fn apart<W: Write>(out: &mut W, readings: Readings, file: &[u8]) -> io::Result<()> {
+    put(out, b"no record")?;
+    let r = bin_link::session(out, link::nothing(), ALL, 8, readings, false, file)?;
+    put_numbers(out, r)?;
     let mut before = ALL;
     let mut kept: usize = 0;
     while kept <= 20 {
-        before = try_apart(readings, kept, before, file);
+        before = try_apart(out, readings, kept, before, file)?;
         kept += 1;
     }
-    put(b"no bytes");
-    put_numbers(bin_link::session(link::nothing(), ALL, 8, readings, false, b""));
+    put(out, b"no bytes")?;
+    let r = bin_link::session(out, link::nothing(), ALL, 8, readings, false, b"")?;
+    put_numbers(out, r)
 }
 
-fn apart_both(file: &[u8]) {
-    put(b"#BIN#, sender bare, receiver augmented\n");
+fn apart_both<W: Write>(out: &mut W, file: &[u8]) -> io::Result<()> {
+    put(out, b"#BIN#, sender bare, receiver augmented\n")?;
     apart(
+        out,
         Readings {
             sender: Reading::Bare,
             receiver: Reading::Augmented,
         },
         file,
-    );
-    put(b"#BIN#, sender augmented, receiver bare\n");
+    )?;
+    put(out, b"#BIN#, sender augmented, receiver bare\n")?;
     apart(
+        out,
         Readings {
             sender: Reading::Augmented,
             receiver: Reading::Bare,
         },
         file,
-    );
+    )
 }
 
 // ---- Blocks
 
-fn show_block(file: &[u8], block: usize) {
-    put_number(b"block ", block);
-    put(b":");
-    if link::is_whole(
-        bin_link::session(
-            link::nothing(),
-            ALL,
-            block,
-            set_to(Reading::Bare),
-            true,
-            file,
-        ),
+fn show_block<W: Write>(out: &mut W, file: &[u8], block: usize) -> io::Result<()> {
+    put_number(out, b"block ", block)?;
+    put(out, b":")?;
+    let s = bin_link::session(
+        out,
+        link::nothing(),
+        ALL,
+        block,
+        set_to(Reading::Bare),
+        true,
         file,
-    ) {
-        put(b"; whole\n");
+    )?;
+    if link::is_whole(s, file) {
+        put(out, b"; whole\n")
     } else {
-        put(b"; not whole\n");
+        put(out, b"; not whole\n")
     }
 }
 
-fn blocks(file: &[u8]) {
-    put_text(b"file ", file);
-    put(b"\n");
+fn blocks<W: Write>(out: &mut W, file: &[u8]) -> io::Result<()> {
+    put_text(out, b"file ", file)?;
+    put(out, b"\n")?;
     let mut block: usize = 1;
     while block <= 12 {
-        show_block(file, block);
+        show_block(out, file, block)?;
         block += 1;
     }
+    Ok(())
 }
 
-fn main() {
+fn run<W: Write>(out: &mut W) -> io::Result<()> {
     let mut file = [0u8; 270];
     fill(&mut file);
-    cut_all(&file);
-    cut_bin(b"ABCDEFGHIJKLMNOPQRST");
-    apart_both(b"ABCDEFGHIJKLMNOPQRST");
-    blocks(b"SP\\-SP\\-SP\\-");
-    blocks(b"\r#ABORT#\r\r#ABORT#\r\r#ABORT#\r");
-    blocks(b"SP\\-\r#ABORT#\rSP\\-\r#ABORT#\r");
+    cut_all(out, &file)?;
+    cut_bin(out, b"ABCDEFGHIJKLMNOPQRST")?;
+    apart_both(out, b"ABCDEFGHIJKLMNOPQRST")?;
+    blocks(out, b"SP\\-SP\\-SP\\-")?;
+    blocks(out, b"\r#ABORT#\r\r#ABORT#\r\r#ABORT#\r")?;
+    blocks(out, b"SP\\-\r#ABORT#\rSP\\-\r#ABORT#\r")
+}
+
+fn main(rt: HostRuntime) -> io::Result<()> {
+    run(&mut rt.stdout())
 }

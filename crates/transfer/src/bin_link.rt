@@ -59,6 +59,7 @@ fn send(
 
 // The ends behind the sender's answer: what it sent, if anything, goes over the link to the receiver.
 fn take(
+    rt: &HostRuntime,
     receiver: Receiver,
     a: SenderAnswer,
     link: Link,
@@ -73,10 +74,10 @@ fn take(
     let frame = fields::part(to, 0, a.sent);
     // What the sender did before says how the frame is shown.
     let is_data = text::bin_sender_number(before.state()) == text::SENDING;
-    link::show_frame(link, text::SENDER, frame, is_data, failed);
+    link::show_frame(rt, link, text::SENDER, frame, is_data, failed);
     let b = receiver.receive(link::passed(link, frame), area, &mut back);
     let next = b.receiver;
-    text::bin_receiver_moved(receiver, next, failed);
+    text::bin_receiver_moved(rt, receiver, next, failed);
     let sender = a.sender;
     Ends {
         sender,
@@ -85,19 +86,19 @@ fn take(
     }
 }
 
-fn turn(e: Ends, file: &[u8], area: &mut [u8], failed: &mut bool) -> Ends
+fn turn(rt: &HostRuntime, e: Ends, file: &[u8], area: &mut [u8], failed: &mut bool) -> Ends
     ensures { (turn_of file.now (record { ends = e; area = area.old }) ≡ record { ends = result; area = area.new }) × Stays failed.old failed.new }
 {
     let link = e.link;
     let back = link.back;
     let mut to = [0; 259];
     let answer = link::answer_of(link, &back);
-    link::show_frame(link, text::RECEIVER, answer, false, failed);
+    link::show_frame(rt, link, text::RECEIVER, answer, false, failed);
     let came = link::passed(link, answer);
     let a = send(e.sender, link.answered, came, file, &mut to);
-    text::bin_sender_moved(e.sender, a.sender, failed);
+    text::bin_sender_moved(rt, e.sender, a.sender, failed);
     let sent = link::after(link, link.answered);
-    take(e.receiver, a, sent, e.sender, &to, area, failed)
+    take(rt, e.receiver, a, sent, e.sender, &to, area, failed)
 }
 
 fn is_over(e: Ends) -> bool
@@ -111,12 +112,12 @@ fn is_over(e: Ends) -> bool
 }
 
 // The operator stops a sender whose link is broken.
-fn end_sender(sender: Sender, file: &[u8], failed: &mut bool)
+fn end_sender(rt: &HostRuntime, sender: Sender, file: &[u8], failed: &mut bool)
     ensures { Stays failed.old failed.new }
 {
     let mut out = [0; 259];
     let a = sender.cancel(file, &mut out);
-    text::bin_sender_moved(sender, a.sender, failed);
+    text::bin_sender_moved(rt, sender, a.sender, failed);
 }
 
 fn saved(receiver: Receiver) -> Saved
@@ -132,18 +133,19 @@ fn saved(receiver: Receiver) -> Saved
 }
 
 // The timer of a receiver whose link is broken.
-fn end_receiver(receiver: Receiver, area: &[u8], failed: &mut bool) -> Saved
+fn end_receiver(rt: &HostRuntime, receiver: Receiver, area: &[u8], failed: &mut bool) -> Saved
     ensures { (result ≡ saved_after receiver area.now) × Stays failed.old failed.new }
 {
     let mut out = [0; 259];
     let a = receiver.timeout(area, &mut out);
-    text::bin_receiver_moved(receiver, a.receiver, failed);
+    text::bin_receiver_moved(rt, receiver, a.receiver, failed);
     saved(a.receiver)
 }
 
 // A session of a file that goes on from what the one before left. An end that has ended takes no call any more;
 // a failed write ends the session.
 pub fn session(
+    rt: &HostRuntime,
     before: Saved,
     name: &[u8],
     left: usize,
@@ -162,9 +164,9 @@ pub fn session(
         if *failed {
             break;
         }
-        e = turn(e, file, area, failed);
+        e = turn(rt, e, file, area, failed);
         rest -= 1;
     }
-    end_sender(e.sender, file, failed);
-    end_receiver(e.receiver, area, failed)
+    end_sender(rt, e.sender, file, failed);
+    end_receiver(rt, e.receiver, area, failed)
 }

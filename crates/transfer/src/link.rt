@@ -128,18 +128,33 @@ pub fn passed(link: Link, bytes: &[u8]) -> &[u8]
 }
 
 // A packet or a frame on its way, by the number of its word, and how much of it passes.
-pub fn show(link: Link, from: usize, number: usize, bytes: &[u8], failed: &mut bool)
+pub fn show(
+    rt: &HostRuntime,
+    link: Link,
+    from: usize,
+    number: usize,
+    bytes: &[u8],
+    failed: &mut bool,
+)
     ensures { Stays failed.old failed.new }
 {
     let some = passed(link, bytes);
-    text::passing(from, number, bytes.len(), some.len(), failed);
+    text::passing(rt, from, number, bytes.len(), some.len(), failed);
 }
 
 // The same of a packet, by its type.
-pub fn show_packet(link: Link, from: usize, packet: &[u8], checks: bool, failed: &mut bool)
+pub fn show_packet(
+    rt: &HostRuntime,
+    link: Link,
+    from: usize,
+    packet: &[u8],
+    checks: bool,
+    failed: &mut bool,
+)
     ensures { Stays failed.old failed.new }
 {
     show(
+        rt,
         link,
         from,
         text::packet_number(packet, checks),
@@ -149,10 +164,18 @@ pub fn show_packet(link: Link, from: usize, packet: &[u8], checks: bool, failed:
 }
 
 // The same of a frame, by what it is.
-pub fn show_frame(link: Link, from: usize, frame: &[u8], is_data: bool, failed: &mut bool)
+pub fn show_frame(
+    rt: &HostRuntime,
+    link: Link,
+    from: usize,
+    frame: &[u8],
+    is_data: bool,
+    failed: &mut bool,
+)
     ensures { Stays failed.old failed.new }
 {
     show(
+        rt,
         link,
         from,
         text::frame_number(frame, is_data),

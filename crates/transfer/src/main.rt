@@ -11,6 +11,10 @@ use link::Saved;
 use numbers::digit_reader;
 use printing::{fail, put, put_number, put_word, say};
 use records::{RecordRead, record_reader};
+use std::fs::File;
+use std::io::Read;
+use std::process::ExitCode;
+use std::{env, io};
 
 mod bin_link;
 mod link;
@@ -78,49 +82,50 @@ fn pick_way(own: usize, seed: u64) -> usize {
     own
 }
 
-fn print_way(way: usize, failed: &mut bool) {
-    put_word(b"YAPP|YappC|#BIN#|", way, failed);
+fn print_way(rt: &HostRuntime, way: usize, failed: &mut bool) {
+    put_word(rt, b"YAPP|YappC|#BIN#|", way, failed);
 }
 
 // ---- Sessions
 
-fn print_good(len: usize, kept: u32, size: u32, failed: &mut bool) {
+fn print_good(rt: &HostRuntime, len: usize, kept: u32, size: u32, failed: &mut bool) {
     let words: &[u8] = b"  record of | bytes: kept | of |\n|";
-    put_number(words, 0, len, failed);
-    put_number(words, 1, kept as usize, failed);
-    put_number(words, 2, size as usize, failed);
-    put_word(words, 3, failed);
+    put_number(rt, words, 0, len, failed);
+    put_number(rt, words, 1, kept as usize, failed);
+    put_number(rt, words, 2, size as usize, failed);
+    put_word(rt, words, 3, failed);
 }
 
-fn print_read(len: usize, read: RecordRead, failed: &mut bool) {
+fn print_read(rt: &HostRuntime, len: usize, read: RecordRead, failed: &mut bool) {
     match read {
-        RecordRead::Good(r) => print_good(len, r.kept, r.size, failed),
-        RecordRead::Unreadable => put(b"  record unreadable\n", failed),
+        RecordRead::Good(r) => print_good(rt, len, r.kept, r.size, failed),
+        RecordRead::Unreadable => put(rt, b"  record unreadable\n", failed),
     }
 }
 
-fn print_record(saved: Saved, failed: &mut bool) {
+fn print_record(rt: &HostRuntime, saved: Saved, failed: &mut bool) {
     let bytes = saved.bytes;
     if saved.count == 0 {
-        return put(b"  no record\n", failed);
+        return put(rt, b"  no record\n", failed);
     }
     print_read(
+        rt,
         saved.count,
         record_reader::record_of(fields::part(&bytes, 0, saved.count)),
         failed,
     );
 }
 
-fn print_session(number: u32, way: usize, left: usize, failed: &mut bool) {
+fn print_session(rt: &HostRuntime, number: u32, way: usize, left: usize, failed: &mut bool) {
     let words: &[u8] = b"\nsession | by |, the link breaks after | bytes|\n|";
-    put_number(words, 0, number as usize, failed);
-    put_word(words, 1, failed);
-    print_way(way, failed);
+    put_number(rt, words, 0, number as usize, failed);
+    put_word(rt, words, 1, failed);
+    print_way(rt, way, failed);
     if number <= BREAKS {
-        put_number(words, 2, left, failed);
-        put_word(words, 3, failed);
+        put_number(rt, words, 2, left, failed);
+        put_word(rt, words, 3, failed);
     }
-    put_word(words, 4, failed);
+    put_word(rt, words, 4, failed);
 }
 
 // How many bytes the link carries in a session: as the seed picks, or any number once it has broken often enough.
@@ -140,6 +145,7 @@ fn way_of(number: u32, own: usize, seed: u64) -> usize {
 
 // The session with this number: two numbers of the seed's sequence pick its protocol and where the link breaks.
 fn session(
+    rt: &HostRuntime,
     number: u32,
     own: usize,
     seed: u64,
@@ -151,22 +157,30 @@ fn session(
 ) -> Saved {
     let way = way_of(number, own, seed);
     let left = left_of(number, next(seed), file.len());
-    print_session(number, way, left, failed);
+    print_session(rt, number, way, left, failed);
     if way == BIN {
-        return bin_link::session(before, name, left, file, area, failed);
+        return bin_link::session(rt, before, name, left, file, area, failed);
     }
-    yapp_link::session(before, way == YAPPC, name, left, file, area, failed)
+    yapp_link::session(rt, before, way == YAPPC, name, left, file, area, failed)
 }
 
 // Sessions until the file is whole, or a write failed.
-fn sessions(own: usize, seed: u64, name: &[u8], file: &[u8], area: &mut [u8], failed: &mut bool) {
+fn sessions(
+    rt: &HostRuntime,
+    own: usize,
+    seed: u64,
+    name: &[u8],
+    file: &[u8],
+    area: &mut [u8],
+    failed: &mut bool,
+) {
     let mut saved = link::nothing();
     let mut state = next(seed);
     let mut number = 1;
     while number <= BREAKS + 1 {
-        saved = session(number, own, state, saved, name, file, area, failed);
+        saved = session(rt, number, own, state, saved, name, file, area, failed);
         state = next(next(state));
-        print_record(saved, failed);
+        print_record(rt, saved, failed);
         if saved.whole {
             return;
         }
@@ -177,32 +191,32 @@ fn sessions(own: usize, seed: u64, name: &[u8], file: &[u8], area: &mut [u8], fa
     }
 }
 
-fn print_title(own: usize, name: &[u8], size: usize, failed: &mut bool) {
+fn print_title(rt: &HostRuntime, own: usize, name: &[u8], size: usize, failed: &mut bool) {
     let words: &[u8] = b"\n|, | bytes, by |";
-    put_word(words, 0, failed);
-    put(name, failed);
-    put_number(words, 1, size, failed);
-    put_word(words, 2, failed);
-    print_way(own, failed);
-    put_word(words, 0, failed);
+    put_word(rt, words, 0, failed);
+    put(rt, name, failed);
+    put_number(rt, words, 1, size, failed);
+    put_word(rt, words, 2, failed);
+    print_way(rt, own, failed);
+    put_word(rt, words, 0, failed);
 }
 
-fn print_compared(area: &[u8], file: &[u8], failed: &mut bool) {
+fn print_compared(rt: &HostRuntime, area: &[u8], file: &[u8], failed: &mut bool) {
     if names::same(fields::part(area, 0, file.len()), file) {
-        return put(b"the area equals the file\n", failed);
+        return put(rt, b"the area equals the file\n", failed);
     }
-    put(b"THE AREA DIFFERS FROM THE FILE\n", failed);
+    put(rt, b"THE AREA DIFFERS FROM THE FILE\n", failed);
 }
 
-fn transfer(own: usize, seed: u64, name: &[u8], file: &[u8], failed: &mut bool) {
+fn transfer(rt: &HostRuntime, own: usize, seed: u64, name: &[u8], file: &[u8], failed: &mut bool) {
     let mut space = area_space();
     let area: &mut [u8] = &mut space;
-    print_title(own, name, file.len(), failed);
+    print_title(rt, own, name, file.len(), failed);
     if *failed {
         return;
     }
-    sessions(own, seed, name, file, area, failed);
-    print_compared(area, file, failed);
+    sessions(rt, own, seed, name, file, area, failed);
+    print_compared(rt, area, file, failed);
 }
 
 // ---- The arguments
@@ -224,102 +238,103 @@ fn name_of(path: &[u8]) -> &[u8] {
     fields::part(path, name_from(path), path.len())
 }
 
-fn all_ways(name: &[u8], seed: u64, file: &[u8]) {
+fn all_ways(rt: &HostRuntime, name: &[u8], seed: u64, file: &[u8]) -> ExitCode {
     let mut failed = false;
-    transfer(YAPP, seed, name, file, &mut failed);
-    transfer(YAPPC, seed, name, file, &mut failed);
-    transfer(BIN, seed, name, file, &mut failed);
+    transfer(rt, YAPP, seed, name, file, &mut failed);
+    transfer(rt, YAPPC, seed, name, file, &mut failed);
+    transfer(rt, BIN, seed, name, file, &mut failed);
+    if failed {
+        return ExitCode::FAILURE;
+    }
+    ExitCode::SUCCESS
 }
 
-fn try_all(path: &[u8], seed: u64, file: &[u8]) {
-    let name = name_of(path);
+fn try_all(rt: &HostRuntime, path: &str, seed: u64, file: &[u8]) -> ExitCode {
+    let name = name_of(path.as_bytes());
     if LARGEST < file.len() {
-        return say(path, b": over 1048576 bytes\n");
+        return refuse(rt, path, ": over 1048576 bytes");
     }
     if names::is_name(name) {
-        return all_ways(name, seed, file);
+        return all_ways(rt, name, seed, file);
     }
-    say(path, b": not a name that a header can carry\n")
+    refuse(rt, path, ": not a name that a header can carry")
 }
 
 // Reads up to the end of the file or of the buffer. A read that fails is said, and is not the end of the file.
-fn read_file(fd: i32, path: &[u8], buf: &mut [u8]) -> FileRead {
+fn read_file(rt: &HostRuntime, file: &mut File, path: &str, buf: &mut [u8]) -> FileRead {
     let mut n = 0;
     while n < buf.len() {
-        let rest = &mut buf[n..];
-        let got = libc::read(fd, rest);
-        if got < 0 {
-            fail(path);
-            return FileRead::Failed;
+        match file.read(&mut buf[n..]) {
+            Ok(0) => break,
+            Ok(more) => n += more,
+            Err(why) => {
+                fail(rt, path, why);
+                return FileRead::Failed;
+            }
         }
-        let more = io::count(got, rest);
-        if more == 0 {
-            break;
-        }
-        n += more;
     }
     FileRead::Bytes(n)
 }
 
-fn read_path(path: &[u8], buf: &mut [u8]) -> FileRead {
-    let fd = os::open_read(path);
-    if fd < 0 {
-        fail(path);
-        return FileRead::Failed;
+fn read_path(rt: &HostRuntime, path: &str, buf: &mut [u8]) -> FileRead {
+    match File::open(rt, path) {
+        Ok(mut file) => read_file(rt, &mut file, path, buf),
+        Err(why) => {
+            fail(rt, path, why);
+            FileRead::Failed
+        }
     }
-    let read = read_file(fd, path, buf);
-    libc::close(fd);
-    read
 }
 
-fn run(path: &[u8], seed: u64) {
+fn run(rt: &HostRuntime, path: &str, seed: u64) -> ExitCode {
     let mut space = file_space();
     let buf: &mut [u8] = &mut space;
-    let read = read_path(path, buf);
-    match read {
-        FileRead::Bytes(n) => try_all(path, seed, fields::part(buf, 0, n)),
-        FileRead::Failed => {}
+    match read_path(rt, path, buf) {
+        FileRead::Bytes(n) => try_all(rt, path, seed, fields::part(buf, 0, n)),
+        FileRead::Failed => ExitCode::FAILURE,
     }
 }
 
 // The sample, from the root of the repository.
-fn run_sample(seed: u64) {
-    run(b"crates/transfer/data/bag-reads.csv", seed);
+fn run_sample(rt: &HostRuntime, seed: u64) -> ExitCode {
+    run(rt, "crates/transfer/data/bag-reads.csv", seed)
 }
 
-fn run_seeded(path: &[u8], seed: &[u8]) {
-    match digit_reader::read_size(seed) {
-        numbers::Number::Value(n) => run(path, n as u64),
-        numbers::Number::Malformed => say(b"", b"a seed is a number of at most 8 digits\n"),
+fn run_seeded(rt: &HostRuntime, path: &str, seed: &str) -> ExitCode {
+    match digit_reader::read_size(seed.as_bytes()) {
+        numbers::Number::Value(n) => run(rt, path, n as u64),
+        numbers::Number::Malformed => refuse(rt, "", "a seed is a number of at most 8 digits"),
     }
 }
 
-fn usage() {
-    io::write_all(libc::STDERR_FILENO, b"usage: transfer [PATH [SEED]]\n");
+fn usage(rt: &HostRuntime) -> ExitCode {
+    let _ = eprintln!(rt; "usage: transfer [PATH [SEED]]");
+    ExitCode::SUCCESS
 }
 
-// A path that is empty here was too long for its buffer, or empty. The seed is 1 where none is given.
-fn start(words: usize, path: &[u8], seed: &[u8]) {
-    if words < 2 {
-        return run_sample(1);
-    }
-    if 3 < words {
-        return usage();
-    }
-    if path.len() == 0 {
-        return say(b"", b"a path has 1 to 4095 bytes\n");
-    }
-    if words < 3 {
-        return run(path, 1);
-    }
-    run_seeded(path, seed)
+// Says why the program does not do what it was asked for. That is no failure.
+fn refuse(rt: &HostRuntime, word: &str, what: &str) -> ExitCode {
+    say(rt, word, what);
+    ExitCode::SUCCESS
 }
 
-fn main() {
-    let mut path = io::buffer();
-    let mut word = [0; 16];
-    let text: &mut [u8] = &mut word;
-    let named = os::arg(1, &mut path);
-    let n = os::arg(2, text);
-    start(os::arg_count(), &path[..named], fields::part(text, 0, n));
+// The seed is 1 where none is given.
+fn start(rt: &HostRuntime, path: &str, seed: Option<String>) -> ExitCode {
+    if path.is_empty() || 4095 < path.len() {
+        return refuse(rt, "", "a path has 1 to 4095 bytes");
+    }
+    match seed {
+        Some(word) => run_seeded(rt, path, word.as_str()),
+        None => run(rt, path, 1),
+    }
+}
+
+fn main(rt: HostRuntime) -> io::Result<ExitCode> {
+    let mut words = env::args(&rt)?.skip(1);
+    let code = match (words.next(), words.next(), words.next()) {
+        (None, _, _) => run_sample(&rt, 1),
+        (Some(path), seed, None) => start(&rt, path.as_str(), seed),
+        _ => usage(&rt),
+    };
+    Ok(code)
 }

@@ -29,13 +29,14 @@ pub const RECEIVER: usize = 1;
 pub const SENDING: usize = 1280;
 
 // An outcome's number and its words; 18, 19, 20, 22 and 24 to 70 are no outcomes.
-fn print_outcome(number: usize, failed: &mut bool)
+fn print_outcome(rt: &HostRuntime, number: usize, failed: &mut bool)
     ensures { Stays failed.old failed.new }
 {
-    put_number(b"|", 0, number, failed);
-    put(b" ", failed);
+    put_number(rt, b"|", 0, number, failed);
+    put(rt, b" ", failed);
     if 71 <= number {
         return put_word(
+            rt,
             b"no closing byte behind the name|\
               name empty or too long|\
               forbidden byte in the name|\
@@ -47,6 +48,7 @@ fn print_outcome(number: usize, failed: &mut bool)
         );
     }
     put_word(
+        rt,
         b"success|\
           record unreadable|\
           record over its limits|\
@@ -73,16 +75,17 @@ fn print_outcome(number: usize, failed: &mut bool)
 }
 
 // A state's number is the place of its word times 128, and the outcome's number where it has one.
-fn print_state(number: usize, failed: &mut bool)
+fn print_state(rt: &HostRuntime, number: usize, failed: &mut bool)
     ensures { Stays failed.old failed.new }
 {
     put_word(
+        rt,
         b"S|SH|SD|SE|ST|R|RH|RD|start|wait|send|waiting|basic|extended|CW, |ended, |",
         number / 128,
         failed,
     );
     if 1792 <= number {
-        print_outcome(number % 128, failed);
+        print_outcome(rt, number % 128, failed);
     }
 }
 
@@ -142,25 +145,26 @@ pub fn is_end(number: usize) -> bool
 }
 
 // An end's step from one state to another.
-pub fn moved(who: usize, before: usize, after: usize, failed: &mut bool)
+pub fn moved(rt: &HostRuntime, who: usize, before: usize, after: usize, failed: &mut bool)
     ensures { Stays failed.old failed.new }
 {
     if before / 128 == after / 128 {
         return;
     }
     let words: &[u8] = b"    sender |    receiver | to |\n|";
-    put_word(words, who, failed);
-    print_state(before, failed);
-    put_word(words, 2, failed);
-    print_state(after, failed);
-    put_word(words, 3, failed);
+    put_word(rt, words, who, failed);
+    print_state(rt, before, failed);
+    put_word(rt, words, 2, failed);
+    print_state(rt, after, failed);
+    put_word(rt, words, 3, failed);
 }
 
 // The same of each protocol's ends.
-pub fn sender_moved(before: Sender, after: Sender, failed: &mut bool)
+pub fn sender_moved(rt: &HostRuntime, before: Sender, after: Sender, failed: &mut bool)
     ensures { Stays failed.old failed.new }
 {
     moved(
+        rt,
         SENDER,
         sender_number(before.state()),
         sender_number(after.state()),
@@ -168,10 +172,11 @@ pub fn sender_moved(before: Sender, after: Sender, failed: &mut bool)
     );
 }
 
-pub fn receiver_moved(before: Receiver, after: Receiver, failed: &mut bool)
+pub fn receiver_moved(rt: &HostRuntime, before: Receiver, after: Receiver, failed: &mut bool)
     ensures { Stays failed.old failed.new }
 {
     moved(
+        rt,
         RECEIVER,
         receiver_number(before.state()),
         receiver_number(after.state()),
@@ -179,10 +184,11 @@ pub fn receiver_moved(before: Receiver, after: Receiver, failed: &mut bool)
     );
 }
 
-pub fn bin_sender_moved(before: BinSender, after: BinSender, failed: &mut bool)
+pub fn bin_sender_moved(rt: &HostRuntime, before: BinSender, after: BinSender, failed: &mut bool)
     ensures { Stays failed.old failed.new }
 {
     moved(
+        rt,
         SENDER,
         bin_sender_number(before.state()),
         bin_sender_number(after.state()),
@@ -190,10 +196,16 @@ pub fn bin_sender_moved(before: BinSender, after: BinSender, failed: &mut bool)
     );
 }
 
-pub fn bin_receiver_moved(before: BinReceiver, after: BinReceiver, failed: &mut bool)
+pub fn bin_receiver_moved(
+    rt: &HostRuntime,
+    before: BinReceiver,
+    after: BinReceiver,
+    failed: &mut bool,
+)
     ensures { Stays failed.old failed.new }
 {
     moved(
+        rt,
         RECEIVER,
         bin_receiver_number(before.state()),
         bin_receiver_number(after.state()),
@@ -202,34 +214,42 @@ pub fn bin_receiver_moved(before: BinReceiver, after: BinReceiver, failed: &mut 
 }
 
 // A packet or a frame on its way, if it has any bytes: who sent it, the place of its word, and how many of its bytes pass.
-pub fn passing(from: usize, number: usize, n: usize, passed: usize, failed: &mut bool)
+pub fn passing(
+    rt: &HostRuntime,
+    from: usize,
+    number: usize,
+    n: usize,
+    passed: usize,
+    failed: &mut bool,
+)
     ensures { Stays failed.old failed.new }
 {
     if n == 0 {
         return;
     }
     let words: &[u8] = b"> |< | | bytes|\n|";
-    put_word(words, from, failed);
-    print_kind(number, failed);
-    put_number(words, 2, n, failed);
-    put_word(words, 3, failed);
-    print_break(n, passed, failed);
-    put_word(words, 4, failed);
+    put_word(rt, words, from, failed);
+    print_kind(rt, number, failed);
+    put_number(rt, words, 2, n, failed);
+    put_word(rt, words, 3, failed);
+    print_break(rt, n, passed, failed);
+    put_word(rt, words, 4, failed);
 }
 
 // Where the link breaks, if not all of the n bytes pass.
-fn print_break(n: usize, passed: usize, failed: &mut bool)
+fn print_break(rt: &HostRuntime, n: usize, passed: usize, failed: &mut bool)
     ensures { Stays failed.old failed.new }
 {
     if passed < n {
-        put_number(b", the link breaks after |", 0, passed, failed);
+        put_number(rt, b", the link breaks after |", 0, passed, failed);
     }
 }
 
-fn print_kind(number: usize, failed: &mut bool)
+fn print_kind(rt: &HostRuntime, number: usize, failed: &mut bool)
     ensures { Stays failed.old failed.new }
 {
     put_word(
+        rt,
         b"RR|RF|AF|AT|CA|RT|SI|RI|HD|DT|EF|ET|NR|RE|CN|TX|malformed HD|unreadable|unfinished|\
           line|malformed line|OK|OK with name|OK with kept count|malformed OK|NO|stop|display|other|data|",
         number,

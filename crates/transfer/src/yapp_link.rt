@@ -63,6 +63,7 @@ fn send(
 
 // The ends behind the sender's answer: what it sent, if anything, goes over the link to the receiver.
 fn take(
+    rt: &HostRuntime,
     receiver: Receiver,
     a: SenderAnswer,
     link: Link,
@@ -75,10 +76,10 @@ fn take(
     let checked = receiver.checked();
     let mut back = [0; 259];
     let packet = fields::part(to, 0, a.sent);
-    link::show_packet(link, text::SENDER, packet, checked, failed);
+    link::show_packet(rt, link, text::SENDER, packet, checked, failed);
     let b = receiver.receive(link::passed(link, packet), area, &mut back);
     let next = b.receiver;
-    text::receiver_moved(receiver, next, failed);
+    text::receiver_moved(rt, receiver, next, failed);
     let sender = a.sender;
     Ends {
         sender,
@@ -87,19 +88,19 @@ fn take(
     }
 }
 
-fn turn(e: Ends, file: &[u8], area: &mut [u8], failed: &mut bool) -> Ends
+fn turn(rt: &HostRuntime, e: Ends, file: &[u8], area: &mut [u8], failed: &mut bool) -> Ends
     ensures { (turn_of file.now (record { ends = e; area = area.old }) ≡ record { ends = result; area = area.new }) × Stays failed.old failed.new }
 {
     let link = e.link;
     let back = link.back;
     let mut to = [0; 259];
     let answer = link::answer_of(link, &back);
-    link::show_packet(link, text::RECEIVER, answer, false, failed);
+    link::show_packet(rt, link, text::RECEIVER, answer, false, failed);
     let came = link::passed(link, answer);
     let a = send(e.sender, link.answered, came, file, &mut to);
-    text::sender_moved(e.sender, a.sender, failed);
+    text::sender_moved(rt, e.sender, a.sender, failed);
     let sent = link::after(link, link.answered);
-    take(e.receiver, a, sent, &to, area, failed)
+    take(rt, e.receiver, a, sent, &to, area, failed)
 }
 
 fn is_over(e: Ends) -> bool
@@ -113,23 +114,23 @@ fn is_over(e: Ends) -> bool
 }
 
 // The operator stops a sender whose link is broken: it ends when nothing answers.
-fn end_sender(sender: Sender, file: &[u8], failed: &mut bool)
+fn end_sender(rt: &HostRuntime, sender: Sender, file: &[u8], failed: &mut bool)
     ensures { Stays failed.old failed.new }
 {
     let mut space = [0; 259];
     let out: &mut [u8] = &mut space;
     let a = sender.cancel(file, out);
     let b = a.sender.timeout(file, out);
-    text::sender_moved(sender, a.sender, failed);
-    text::sender_moved(a.sender, b.sender, failed);
+    text::sender_moved(rt, sender, a.sender, failed);
+    text::sender_moved(rt, a.sender, b.sender, failed);
 }
 
-fn time_out(receiver: Receiver, area: &[u8], failed: &mut bool) -> Receiver
+fn time_out(rt: &HostRuntime, receiver: Receiver, area: &[u8], failed: &mut bool) -> Receiver
     ensures { (result ≡ timed_out receiver area.now) × Stays failed.old failed.new }
 {
     let mut out = [0; 259];
     let a = receiver.timeout(area, &mut out);
-    text::receiver_moved(receiver, a.receiver, failed);
+    text::receiver_moved(rt, receiver, a.receiver, failed);
     a.receiver
 }
 
@@ -146,16 +147,17 @@ fn saved(receiver: Receiver) -> Saved
 }
 
 // The timer of a receiver whose link is broken: it aborts, and ends when nothing answers.
-fn end_receiver(receiver: Receiver, area: &[u8], failed: &mut bool) -> Saved
+fn end_receiver(rt: &HostRuntime, receiver: Receiver, area: &[u8], failed: &mut bool) -> Saved
     ensures { (result ≡ saved_after receiver area.now) × Stays failed.old failed.new }
 {
-    let aborting = time_out(receiver, area, failed);
-    saved(time_out(aborting, area, failed))
+    let aborting = time_out(rt, receiver, area, failed);
+    saved(time_out(rt, aborting, area, failed))
 }
 
 // A session of a file that goes on from what the one before left. An end that has ended takes no call any more;
 // a failed write ends the session.
 pub fn session(
+    rt: &HostRuntime,
     before: Saved,
     checks: bool,
     name: &[u8],
@@ -175,9 +177,9 @@ pub fn session(
         if *failed {
             break;
         }
-        e = turn(e, file, area, failed);
+        e = turn(rt, e, file, area, failed);
         rest -= 1;
     }
-    end_sender(e.sender, file, failed);
-    end_receiver(e.receiver, area, failed)
+    end_sender(rt, e.sender, file, failed);
+    end_receiver(rt, e.receiver, area, failed)
 }
