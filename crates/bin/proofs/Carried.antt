@@ -1,8 +1,8 @@
 -- A malformed line and a malformed OK end the session with their own number and place; what is sent is what it was before.
 -- (Change request 2026-02.) Assumes nothing.
+use Rattle.std.specs.Prelude.{Option}
 use mathlib.Core.Path.{◌≡◌, refl}
 use mathlib.Core.List.{List, [], ◌∷◌}
-use mathlib.Core.Option.{Option}
 use Prim.Native.Nat.{ℕ}
 use Rattle.fields.specs.declared.Fault.{Fault}
 use Rattle.lines.specs.declared.Frame.TheVariants.{MalformedLine, MalformedOK}

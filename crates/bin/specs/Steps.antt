@@ -1,11 +1,9 @@
 -- What the two ends of #BIN# do, over frames. (Document 01, "Lines of #BIN#".) Every CRC of an end, the line's, the third OK's, and those that
 -- 16 and 11 judge by, is by the reading that its session is set to (request 2026-06).
-use Rattle.std.specs.Prelude.{ℕ, ◌+◌, Bool, true, false, ◌&&◌, List, [], ◌∷◌, ◌++◌, length, take, drop, leb, eqb}
-use Rattle.std.proofs.Math.Option.{Option, none, some}
+use Rattle.std.specs.Prelude.{ℕ, ◌+◌, Bool, true, false, ◌&&◌, List, [], ◌∷◌, ◌++◌, length, take, drop, leb, eqb, None, Option, Some}
 use Rattle.fields.specs.Pick.{pick}
 use Rattle.fields.specs.Lists.{same}
 use Rattle.fields.specs.Buffer.{appended}
-use Rattle.fields.specs.declared.Stamp.TheVariants.{Present}
 use Rattle.crc.specs.declared.Reading.{Reading}
 use Rattle.crc.specs.Crc.{crc_by}
 use Rattle.lines.specs.Frame.{starts, display_mark, stop_frame, frame_of}
@@ -159,21 +157,21 @@ unfoldable pub judge_whole : Reading → ℕ → Option Saved → List ℕ → L
 judge_whole reading crc v a reply n =
     pick (eqb (kept_of v) (size_of v))
     (pick (eqb (crc_by reading (take (size_of v) a)) crc) (answers (Over Success) v a reply n)
-    (answers (Over CheckFailed) none a (stop_frame ∷ []) n))
+    (answers (Over CheckFailed) None a (stop_frame ∷ []) n))
     (answers (Takes crc) v a reply n)
 
 -- an extended line: a record, and no `?` or resume off, is 9; another name or size is 10; a matching record is answered with the third OK
 -- and the CRC of the kept bytes; otherwise the second OK
 unfoldable pub judge_record : ReceiverSettings → Option Saved → List ℕ → ℕ → ℕ → ℕ → Bool → List ℕ → ReceiverMove
-judge_record t none a size crc stamp resumable name =
-    judge_whole t.reading crc (some (record { size = size; kept = 0; stamp = Present stamp; name = name })) a (says (ok_name name)) 0
-judge_record t (some v) a size crc stamp resumable name =
+judge_record t None a size crc stamp resumable name =
+    judge_whole t.reading crc (Some (record { size = size; kept = 0; stamp = Some stamp; name = name })) a (says (ok_name name)) 0
+judge_record t (Some v) a size crc stamp resumable name =
     pick (resumable && t.resumes)
     (pick (same v.name name && eqb v.size size)
-    (judge_whole t.reading crc (some (record { size = size; kept = v.kept; stamp = Present stamp; name = name })) a
+    (judge_whole t.reading crc (Some (record { size = size; kept = v.kept; stamp = Some stamp; name = name })) a
     (says (ok_kept name v.kept (crc_by t.reading (take v.kept a)))) 0)
-    (refuses (some v) a Differs differs_text))
-    (refuses (some v) a HaveFile have_text)
+    (refuses (Some v) a Differs differs_text))
+    (refuses (Some v) a HaveFile have_text)
 
 unfoldable pub judge_extended : ReceiverSettings → Option Saved → List ℕ → ℕ → ℕ → ℕ → Bool → List ℕ → ReceiverMove
 judge_extended t v a size crc stamp resumable name =
@@ -185,8 +183,8 @@ basic_at size kept v a reply n =
     pick (eqb kept size) (answers (Over Success) v a reply n) (answers (TakesBasic size kept) v a reply n)
 
 abbrev pub basic_over : Option Saved → List ℕ → ℕ → ReceiverMove
-basic_over none a size = basic_at size 0 none a (says ok) 0
-basic_over (some v) a size = refuses (some v) a HaveFile have_text
+basic_over None a size = basic_at size 0 None a (says ok) 0
+basic_over (Some v) a size = refuses (Some v) a HaveFile have_text
 
 -- a basic line: with a record it is 9; else the first OK
 unfoldable pub judge_basic : ReceiverSettings → Option Saved → List ℕ → ℕ → ReceiverMove

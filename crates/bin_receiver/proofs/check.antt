@@ -1,2 +1,2 @@
--- Laws that this crate's proofs cite.
+-- How long a frame for display is.
 pub mod Tests

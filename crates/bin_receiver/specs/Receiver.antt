@@ -1,21 +1,18 @@
 -- The receiver of #BIN#: its beginnings, and what each call answers and leaves. (Document 01, "Lines of #BIN#", "The saved record", "Numbers
 -- that refuse or end".)
-use Rattle.std.specs.Prelude.{ℕ, Bool, true, false, ◌&&◌, List, length, replicate, leb}
-use Rattle.std.proofs.Math.Option.{Option, none, some}
+use Rattle.calls.specs.declared.Entry.{Entry}
+use Rattle.calls.specs.declared.Refusal.{Refusal}
+use Rattle.records.specs.declared.Record.{Record}
+use Rattle.std.specs.Prelude.{ℕ, Bool, true, false, ◌&&◌, List, length, replicate, leb, None, Ok, Option, Result, Some}
 use Rattle.fields.specs.Pick.{pick}
 pub use Rattle.fields.specs.Lists.{nowhere}
 use Rattle.fields.specs.Buffer.{Form, over, appended}
 use Rattle.fields.specs.declared.Place.{Place}
 use Rattle.lines.specs.Frame.{starts, display_mark, shown_of}
-use Rattle.records.specs.declared.RecordRead.{RecordRead}
-use Rattle.records.specs.declared.RecordRead.TheVariants.{Good, Unreadable}
 use Rattle.records.specs.Record.{record_of}
 use Rattle.records.specs.Saved.{Saved, saved_of}
 use Rattle.calls.specs.declared.Outcome.{Outcome}
 use Rattle.calls.specs.declared.Outcome.TheVariants.{RecordUnreadable, RecordOver, TimedOut, Stopped}
-use Rattle.calls.specs.declared.Keeping.{Keeping}
-use Rattle.calls.specs.declared.Status.{Status}
-use Rattle.calls.specs.declared.Status.TheVariants.{Taken}
 use Rattle.calls.specs.Checks.{check_of, unless}
 use Rattle.calls.specs.Saving.{saved_by, keeping_of, name_of, form_by}
 use Rattle.crc.specs.declared.Reading.{Reading}
@@ -37,17 +34,17 @@ receiver_with st room resumes reading v = record {
 
 -- with no record
 unfoldable pub fresh : ℕ → Bool → Reading → Receiver
-fresh room resumes reading = receiver_with Waiting room resumes reading none
+fresh room resumes reading = receiver_with Waiting room resumes reading None
 
 -- kept over size, or size over area (2)
 unfoldable pub with_saved : ℕ → Bool → Reading → Saved → Receiver
 with_saved room resumes reading v =
-    pick (leb v.kept v.size && leb v.size room) (receiver_with Waiting room resumes reading (some v))
-    (receiver_with (Ended RecordOver) room resumes reading none)
+    pick (leb v.kept v.size && leb v.size room) (receiver_with Waiting room resumes reading (Some v))
+    (receiver_with (Ended RecordOver) room resumes reading None)
 
-abbrev pub resume_by : ℕ → Bool → Reading → List ℕ → RecordRead → Receiver
-resume_by room resumes reading b (Good r) = with_saved room resumes reading (saved_of b r)
-resume_by room resumes reading b Unreadable = receiver_with (Ended RecordUnreadable) room resumes reading none
+abbrev pub resume_by : ℕ → Bool → Reading → List ℕ → Option Record → Receiver
+resume_by room resumes reading b (Some r) = with_saved room resumes reading (saved_of b r)
+resume_by room resumes reading b None = receiver_with (Ended RecordUnreadable) room resumes reading None
 
 -- from a record's bytes; one that is unreadable is 1
 unfoldable pub resume : List ℕ → ℕ → Bool → Reading → Receiver
@@ -72,19 +69,19 @@ abbrev pub saved_in : Receiver → Option Saved
 saved_in m = saved_by m.core.keeping m.name
 
 -- a refused call changes nothing anywhere
-abbrev pub refused_call : Receiver → Status → List ℕ → List ℕ → ReceiverAfter
+abbrev pub refused_call : Receiver → Result (Unit {0}) Refusal → List ℕ → List ℕ → ReceiverAfter
 refused_call m s area reply =
     record { answer = record { receiver = m; status = s; sent = 0; stored = 0; shown = nowhere }; area = area; reply = reply }
 
 -- a call that is taken: a name is kept at the front of its array, and the frame that is sent stands at the front of the reply buffer
-abbrev pub replied_with : Receiver → Place → ReceiverState → Keeping → List ℕ → List ℕ → ℕ → List ℕ → List ℕ → ReceiverAfter
+abbrev pub replied_with : Receiver → Place → ReceiverState → Option Entry → List ℕ → List ℕ → ℕ → List ℕ → List ℕ → ReceiverAfter
 replied_with m shown st k name said stored area reply = record {
   answer = record {
     receiver = record {
       name = appended 0 name m.name;
       core = record { state = st; room = m.core.room; resumes = m.core.resumes; reading = m.core.reading; keeping = k };
     };
-    status = Taken;
+    status = (Ok tt);
     sent = length said;
     stored = stored;
     shown = shown;
@@ -98,11 +95,11 @@ abbrev pub replied : Receiver → Place → ReceiverMove → List ℕ → Receiv
 replied m shown a reply =
     replied_with m shown a.state (keeping_of a.saved) (name_of a.saved) (joined a.out) a.stored a.area reply
 
-abbrev pub status_of : Receiver → ℕ → List ℕ → List ℕ → Status
+abbrev pub status_of : Receiver → ℕ → List ℕ → List ℕ → Result (Unit {0}) Refusal
 status_of m frame area reply = check_of (receiver_ended m.core.state) (length reply) frame (length area) m.core.room
 
-abbrev pub unless_refused : Status → Receiver → List ℕ → List ℕ → ReceiverAfter → ReceiverAfter
-unless_refused s m area reply after = unless s (λ (x : Status). refused_call m x area reply) after
+abbrev pub unless_refused : Result (Unit {0}) Refusal → Receiver → List ℕ → List ℕ → ReceiverAfter → ReceiverAfter
+unless_refused s m area reply after = unless s (λ (x : Result (Unit {0}) Refusal). refused_call m x area reply) after
 
 -- leave changes nothing
 unfoldable pub transmit : Receiver → List ℕ → List ℕ → ReceiverAfter

@@ -1,15 +1,14 @@
 -- Only contracts of private functions cite this.
 -- What a step of the code is in the definitions of `bin`: a move of the receiver, its record as the struct holds it, what it says by its kind
 -- and a new name by its place in the frame.
-use Rattle.std.specs.Prelude.{ℕ, List, [], ◌∷◌}
+use Rattle.std.specs.Prelude.{ℕ, List, [], ◌∷◌, None, Option, Some}
 use Rattle.fields.specs.Lists.{bytes_at}
-use Rattle.fields.specs.Buffer.{appended}
+use Rattle.fields.specs.declared.Place.{Place}
 use Rattle.lines.specs.Frame.{stop_frame}
 use Rattle.lines.specs.Element.{ok, ok_name, ok_kept, no}
-use Rattle.calls.specs.declared.Keeping.{Keeping}
-use Rattle.calls.specs.Saving.{keeping_of, name_of}
-use Rattle.bin.specs.declared.ReceiverState.{ReceiverState}
-use Rattle.bin.specs.Steps.{ReceiverMove, says, format_text, room_text, have_text, differs_text}
+use Rattle.calls.specs.Saving.{saved_by}
+use Rattle.bin.specs.Steps.{ReceiverMove, answers, says, format_text, room_text, have_text, differs_text}
+use Rattle.bin_receiver.specs.declared.Receiver.{Receiver}
 use Rattle.bin_receiver.specs.declared.step.Step.{Step}
 use Rattle.bin_receiver.specs.declared.step.Out.{Out}
 use Rattle.bin_receiver.specs.declared.step.Out.TheVariants.{Silent, Format, Room, Have, Differs, FirstOk, SecondOk, ThirdOk, Stop}
@@ -26,32 +25,17 @@ frames_of name SecondOk = says (ok_name name)
 frames_of name (ThirdOk kept crc) = says (ok_kept name kept crc)
 frames_of name Stop = stop_frame ∷ []
 
--- what a move leaves: the record without its name, and the array with the name at its front
-pub record Reached : Type 0 where
-  pub state : ReceiverState
-  pub keeping : Keeping
-  pub name : List ℕ
-  pub area : List ℕ
-  pub out : List (List ℕ)
-  pub stored : ℕ
+-- where the record's name stands at the front: a new one in the frame f, else the receiver's array
+abbrev pub named_in : Receiver → List ℕ → Option Place → List ℕ
+named_in m f None = m.name
+named_in m f (Some p) = bytes_at f p
 
-abbrev pub reached : List ℕ → ReceiverMove → Reached
-reached name a = record {
-  state = a.state;
-  keeping = keeping_of a.saved;
-  name = appended 0 (name_of a.saved) name;
-  area = a.area;
-  out = a.out;
-  stored = a.stored;
-}
+-- the move that a step is, with the frame f and the area a
+abbrev pub move_by : Receiver → List ℕ → List ℕ → Step → ReceiverMove
+move_by m f a s =
+    answers s.state (saved_by s.keeping (named_in m f s.renamed)) a (frames_of (named_in m f s.renamed) s.out) s.stored
 
--- what a step leaves, with the frame f and the area a
-abbrev pub reached_by : List ℕ → List ℕ → Step → List ℕ → Reached
-reached_by f name s a = record {
-  state = s.state;
-  keeping = s.keeping;
-  name = appended 0 (bytes_at f s.name) name;
-  area = a;
-  out = frames_of (bytes_at f s.name) s.out;
-  stored = s.stored;
-}
+-- the same where there is a step, else the move of a frame of the file
+abbrev pub move_or : Receiver → List ℕ → List ℕ → ReceiverMove → Option Step → ReceiverMove
+move_or m f a file None = file
+move_or m f a file (Some s) = move_by m f a s

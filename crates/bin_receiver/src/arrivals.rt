@@ -1,40 +1,32 @@
 // What a #BIN# receiver does with a frame that has arrived. Only the bytes of the file are stored on the way.
 ghost use Rattle.std.specs.Prelude.{◌≡◌, length, ◌<◌};
-ghost use Rattle.calls.specs.Saving.{saved_by, held_of};
 ghost use Rattle.bin.specs.Steps.{receiver_takes};
-ghost use Rattle.bin_receiver.specs.Receiver.{settings_by};
-ghost use Rattle.bin_receiver.specs.Step.{reached, reached_by};
+ghost use Rattle.bin_receiver.specs.Receiver.{settings_of, saved_in};
+ghost use Rattle.bin_receiver.specs.Step.{move_by};
 
-use crate::step::{Out, ReceiverCore, Step};
-use crate::{frame, line, step};
+use crate::step::Step;
+use crate::{Receiver, frame, line, step};
 use bin::ReceiverState;
 
 // A frame that is not empty.
-fn take_some(core: ReceiverCore, frame: &[u8], name: &[u8], area: &mut [u8]) -> Step
+fn take_some(receiver: Receiver, frame: &[u8], area: &mut [u8]) -> Step
     requires { 0 < length frame.now }
-    ensures { held_of core.keeping name.now ≡ core.keeping → reached name.now (receiver_takes (settings_by core) core.state (saved_by core.keeping name.now) area.old frame.now) ≡ reached_by frame.now name.now result area.new }
+    ensures { receiver_takes (settings_of receiver) receiver.core.state (saved_in receiver) area.old frame.now ≡ move_by receiver frame.now area.new result }
 {
-    let state = core.state;
-    let keeping = core.keeping;
-    let reading = core.reading;
-    match state {
-        ReceiverState::Waiting => line::hear(core, frame, name, area),
-        ReceiverState::Basic { size, kept } => frame::take_basic(size, kept, keeping, frame, area),
-        ReceiverState::Extended { crc } => {
-            frame::take_extended(reading, crc, keeping, frame, area)
-        }
-        ReceiverState::Ended { outcome } => step::end(outcome, keeping, Out::Silent, 0),
+    match receiver.core.state {
+        ReceiverState::Waiting => line::hear(receiver, frame, area),
+        ReceiverState::Basic { size, kept } => frame::take_basic(receiver, size, kept, frame, area),
+        ReceiverState::Extended { crc } => frame::take_extended(receiver, crc, frame, area),
+        ReceiverState::Ended { .. } => step::stays(receiver),
     }
 }
 
-// A frame has come, to a receiver whose record is held; an empty one changes nothing.
-pub fn take(core: ReceiverCore, frame: &[u8], name: &[u8], area: &mut [u8]) -> Step
-    ensures { held_of core.keeping name.now ≡ core.keeping → reached name.now (receiver_takes (settings_by core) core.state (saved_by core.keeping name.now) area.old frame.now) ≡ reached_by frame.now name.now result area.new }
+// A frame has come; an empty one changes nothing.
+pub fn take(receiver: Receiver, frame: &[u8], area: &mut [u8]) -> Step
+    ensures { receiver_takes (settings_of receiver) receiver.core.state (saved_in receiver) area.old frame.now ≡ move_by receiver frame.now area.new result }
 {
-    if frame.len() == 0 {
-        let state = core.state;
-        let keeping = core.keeping;
-        return step::go(state, keeping, Out::Silent, 0);
+    if frame.is_empty() {
+        return step::stays(receiver);
     }
-    take_some(core, frame, name, area)
+    take_some(receiver, frame, area)
 }

@@ -1,123 +1,82 @@
 // What a #BIN# receiver decides on a frame while it waits: the judging of a line.
-ghost use Rattle.std.specs.Prelude.{◌≡◌, ◌&&◌, List, length, ℕ};
+ghost use Rattle.std.specs.Prelude.{◌≡◌, List, length, ℕ, Some};
 ghost use Rattle.fields.specs.Lists.{bytes_at};
-ghost use Rattle.calls.specs.Saving.{saved_by, held_of, matches_of};
-ghost use Rattle.bin.specs.Steps.{heard, judge_record, judge_extended, judge_basic, receiver_hears};
-ghost use Rattle.bin_receiver.specs.Receiver.{settings_by};
-ghost use Rattle.bin_receiver.specs.Step.{reached, reached_by};
+ghost use Rattle.bin.specs.Steps.{heard, judge_extended, judge_basic, receiver_hears};
+ghost use Rattle.bin_receiver.specs.Receiver.{settings_of, saved_in};
+ghost use Rattle.bin_receiver.specs.Step.{move_by};
 
-use crate::step;
-use crate::step::{Out, ReceiverCore, Step};
+use crate::step::{Out, Step};
+use crate::{Receiver, step};
 use bin::ReceiverState;
-use calls::{Entry, Keeping, Outcome, saving};
-use fields::Stamp;
+use calls::{Entry, Outcome, saving};
 use lines::{Frame, Line, line_reader};
 
 // The record of a line, with a kept count.
 fn entry_of(line: Line, frame: &[u8], kept: u32) -> Entry
-    ensures { result ≡ record { named = length (bytes_at frame.now line.name); size = line.size; kept = kept; stamp = Stamp.Present line.stamp } }
+    ensures { result ≡ record { named = length (bytes_at frame.now line.name); size = line.size; kept = kept; stamp = Some line.stamp } }
 {
-    let place = line.name;
-    let name = fields::bytes_at(frame, place);
     Entry {
-        named: name.len(),
+        named: fields::bytes_at(frame, line.name).len(),
         size: line.size,
         kept,
-        stamp: Stamp::Present(line.stamp),
+        stamp: Some(line.stamp),
     }
-}
-
-// Whether the line is the record's.
-fn matches(entry: Entry, line: Line, frame: &[u8], name: &[u8]) -> bool
-    ensures { result ≡ matches_of entry name.now (bytes_at frame.now line.name) line.size }
-{
-    let place = line.name;
-    let own = fields::bytes_at(frame, place);
-    saving::matches(entry, name, own, line.size)
-}
-
-fn both(a: bool, b: bool) -> bool
-    ensures { result ≡ (a && b) }
-{
-    if a {
-        return b;
-    }
-    false
-}
-
-// An extended line where there is a record.
-fn resume_by(
-    core: ReceiverCore,
-    entry: Entry,
-    line: Line,
-    frame: &[u8],
-    name: &[u8],
-    area: &[u8],
-) -> Step
-    ensures { held_of (Keeping.Of entry) name.now ≡ Keeping.Of entry → reached name.now (judge_record (settings_by core) (saved_by (Keeping.Of entry) name.now) area.now line.size line.crc line.stamp line.resumable (bytes_at frame.now line.name)) ≡ reached_by frame.now name.now result area.now }
-{
-    let kept = entry.kept;
-    if both(line.resumable, core.resumes) {
-        if matches(entry, line, frame, name) {
-            let place = line.name;
-            let reading = core.reading;
-            let crc = crc::crc_by(reading, fields::part(area, 0, kept as usize));
-            let next = entry_of(line, frame, kept);
-            let said = Out::ThirdOk { kept, crc };
-            return step::judge_whole(reading, line.crc, next, said, 0, place, area);
-        }
-        return step::end(Outcome::Differs, Keeping::Of(entry), Out::Differs, 0);
-    }
-    step::end(Outcome::HaveFile, Keeping::Of(entry), Out::Have, 0)
 }
 
 // An extended line.
-fn judge_extended(core: ReceiverCore, line: Line, frame: &[u8], name: &[u8], area: &[u8]) -> Step
-    ensures { held_of core.keeping name.now ≡ core.keeping → reached name.now (judge_extended (settings_by core) (saved_by core.keeping name.now) area.now line.size line.crc line.stamp line.resumable (bytes_at frame.now line.name)) ≡ reached_by frame.now name.now result area.now }
+#[tactic(auto, unfolding(bin::specs::Steps::judge_extended, bin::specs::Steps::judge_record))]
+fn judge_extended(receiver: Receiver, line: Line, frame: &[u8], area: &[u8]) -> Step
+    ensures { judge_extended (settings_of receiver) (saved_in receiver) area.now line.size line.crc line.stamp line.resumable (bytes_at frame.now line.name) ≡ move_by receiver frame.now area.now result }
 {
-    let keeping = core.keeping;
+    let core = receiver.core;
     if core.room < line.size as usize {
-        return step::end(Outcome::NoRoom, keeping, Out::Room, 0);
+        return step::end(receiver, Outcome::NoRoom, Out::Room);
     }
-    match keeping {
-        Keeping::Nothing => {
-            let place = line.name;
-            let reading = core.reading;
-            let next = entry_of(line, frame, 0);
-            step::judge_whole(reading, line.crc, next, Out::SecondOk, 0, place, area)
-        }
-        Keeping::Of(e) => resume_by(core, e, line, frame, name, area),
+    let renamed = Some(line.name);
+    let Some(entry) = core.keeping else {
+        let next = entry_of(line, frame, 0);
+        return step::judge_whole(receiver, line.crc, next, renamed, Out::SecondOk, 0, area);
+    };
+    if !(line.resumable && core.resumes) {
+        return step::end(receiver, Outcome::HaveFile, Out::Have);
     }
+    let name = fields::bytes_at(frame, line.name);
+    if !saving::matches(entry, &receiver.name, name, line.size) {
+        return step::end(receiver, Outcome::Differs, Out::Differs);
+    }
+    let kept = entry.kept;
+    let crc = crc::crc_by(core.reading, fields::part(area, 0, kept as usize));
+    let next = entry_of(line, frame, kept);
+    let said = Out::ThirdOk { kept, crc };
+    step::judge_whole(receiver, line.crc, next, renamed, said, 0, area)
 }
 
 // A basic line.
-fn judge_basic(core: ReceiverCore, size: u32) -> Step
-    ensures { (f name a : List ℕ) → held_of core.keeping name ≡ core.keeping → reached name (judge_basic (settings_by core) (saved_by core.keeping name) a size) ≡ reached_by f name result a }
+#[tactic(auto, unfolding(bin::specs::Steps::judge_basic))]
+fn judge_basic(receiver: Receiver, size: u32) -> Step
+    ensures { (f a : List ℕ) → judge_basic (settings_of receiver) (saved_in receiver) a size ≡ move_by receiver f a result }
 {
-    let keeping = core.keeping;
+    let core = receiver.core;
     if core.room < size as usize {
-        return step::end(Outcome::NoRoom, keeping, Out::Room, 0);
+        return step::end(receiver, Outcome::NoRoom, Out::Room);
     }
-    match keeping {
-        Keeping::Nothing => step::basic_at(size, 0, Keeping::Nothing, Out::FirstOk, 0),
-        Keeping::Of(e) => step::end(Outcome::HaveFile, Keeping::Of(e), Out::Have, 0),
+    match core.keeping {
+        Some(_) => step::end(receiver, Outcome::HaveFile, Out::Have),
+        None => step::basic_at(receiver, size, 0, Out::FirstOk, 0),
     }
 }
 
 // A frame while it waits: frames that do not start with `#BIN#` are ignored.
-pub fn hear(core: ReceiverCore, frame: &[u8], name: &[u8], area: &[u8]) -> Step
-    ensures { held_of core.keeping name.now ≡ core.keeping → reached name.now (receiver_hears (settings_by core) (saved_by core.keeping name.now) area.now (heard frame.now)) ≡ reached_by frame.now name.now result area.now }
+#[tactic(auto, unfolding(bin::specs::Steps::heard, bin::specs::Steps::receiver_hears, lines::specs::Element::content_of))]
+pub fn hear(receiver: Receiver, frame: &[u8], area: &[u8]) -> Step
+    ensures { receiver_hears (settings_of receiver) (saved_in receiver) area.now (heard frame.now) ≡ move_by receiver frame.now area.now result }
 {
-    let keeping = core.keeping;
     match line_reader::frame_of(frame) {
-        Frame::Basic(size) => judge_basic(core, size),
-        Frame::Extended(line) => judge_extended(core, line, frame, name, area),
-        Frame::MalformedLine(fault) => step::end(
-            Outcome::Malformed(fault),
-            keeping,
-            Out::Format,
-            0,
-        ),
-        _ => step::go(ReceiverState::Waiting, keeping, Out::Silent, 0),
+        Frame::Basic(size) => judge_basic(receiver, size),
+        Frame::Extended(line) => judge_extended(receiver, line, frame, area),
+        Frame::MalformedLine(fault) => {
+            step::end(receiver, Outcome::Malformed(fault), Out::Format)
+        }
+        _ => step::go(receiver, ReceiverState::Waiting, Out::Silent, 0),
     }
 }

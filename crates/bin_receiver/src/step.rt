@@ -1,14 +1,15 @@
 // A step of a #BIN# receiver, and the steps that lines and frames have in common.
-ghost use Rattle.std.specs.Prelude.{◌≡◌, List, [], length, ℕ};
-ghost use Rattle.std.proofs.Math.Option.{some};
-ghost use Rattle.fields.specs.Lists.{bytes_at};
-ghost use Rattle.fields.specs.Buffer.{appended};
-ghost use Rattle.calls.specs.Saving.{saved_by, held_of};
-ghost use Rattle.bin.specs.Steps.{answers, judge_whole, basic_at};
-ghost use Rattle.bin_receiver.specs.Step.{frames_of, reached, reached_by};
+ghost use Rattle.std.specs.Prelude.{◌≡◌, List, ℕ, None, Some};
+ghost use Rattle.calls.specs.Saving.{saved_by};
+ghost use Rattle.bin.specs.declared.ReceiverState.TheVariants.{Ended};
+ghost use Rattle.bin.specs.Steps.{judge_whole, basic_at};
+ghost use Rattle.bin_receiver.specs.declared.step.Out.TheVariants.{Silent};
+ghost use Rattle.bin_receiver.specs.Receiver.{saved_in};
+ghost use Rattle.bin_receiver.specs.Step.{frames_of, named_in, move_by};
 
+use crate::Receiver;
 use bin::ReceiverState;
-use calls::{Entry, Keeping, Outcome};
+use calls::{Entry, Outcome};
 use crc::Reading;
 use fields::Place;
 
@@ -22,7 +23,7 @@ pub struct ReceiverCore {
     pub resumes: bool,
     // What the session's CRCs go by.
     pub reading: Reading,
-    pub keeping: Keeping,
+    pub keeping: Option<Entry>,
 }
 
 // What is said.
@@ -46,77 +47,94 @@ pub enum Out {
 #[derive(Clone, Copy)]
 pub struct Step {
     pub state: ReceiverState,
-    pub keeping: Keeping,
+    pub keeping: Option<Entry>,
+    // Where the record's new name stands in the frame; none where the name stays.
+    pub renamed: Option<Place>,
     pub out: Out,
     // How many bytes were stored.
     pub stored: usize,
-    // Where the record's new name stands in the frame; of no bytes where the name stays.
-    pub name: Place,
 }
 
-// The record stays, as it is held.
-pub fn go(state: ReceiverState, keeping: Keeping, out: Out, stored: usize) -> Step
-    ensures { (f name a : List ℕ) → held_of keeping name ≡ keeping → reached name (answers state (saved_by keeping name) a (frames_of [] out) stored) ≡ reached_by f name result a }
+// The record stays.
+pub fn go(receiver: Receiver, state: ReceiverState, out: Out, stored: usize) -> Step
+    ensures { result ≡ record { state = state; keeping = receiver.core.keeping; renamed = None; out = out; stored = stored } }
 {
-    let name = Place { start: 0, len: 0 };
     Step {
         state,
-        keeping,
+        keeping: receiver.core.keeping,
+        renamed: None,
         out,
         stored,
-        name,
     }
 }
 
-pub fn end(outcome: Outcome, keeping: Keeping, out: Out, stored: usize) -> Step
-    ensures { (f name a : List ℕ) → held_of keeping name ≡ keeping → reached name (answers (ReceiverState.Ended outcome) (saved_by keeping name) a (frames_of [] out) stored) ≡ reached_by f name result a }
+// Nothing changes, and nothing is said.
+pub fn stays(receiver: Receiver) -> Step
+    ensures { result ≡ record { state = receiver.core.state; keeping = receiver.core.keeping; renamed = None; out = Silent; stored = 0 } }
 {
-    go(ReceiverState::Ended { outcome }, keeping, out, stored)
+    go(receiver, receiver.core.state, Out::Silent, 0)
 }
 
-// At the announced size it ends, and the whole CRC must agree. The record's name is the one that stands in the array afterwards.
+// The end is reached, and the record stays.
+pub fn end(receiver: Receiver, outcome: Outcome, out: Out) -> Step
+    ensures { result ≡ record { state = Ended outcome; keeping = receiver.core.keeping; renamed = None; out = out; stored = 0 } }
+{
+    go(receiver, ReceiverState::Ended { outcome }, out, 0)
+}
+
+// At the announced size it ends, and the whole CRC must agree: else there is no record any more.
+#[tactic(auto, unfolding(bin::specs::Steps::judge_whole))]
 pub fn judge_whole(
-    reading: Reading,
+    receiver: Receiver,
     crc: u16,
     entry: Entry,
+    renamed: Option<Place>,
     out: Out,
     stored: usize,
-    name: Place,
     area: &[u8],
 ) -> Step
-    ensures { (f own n : List ℕ) → length n ≡ entry.named → appended 0 n own ≡ appended 0 (bytes_at f name) own → reached own (judge_whole reading crc (some (record { size = entry.size; kept = entry.kept; stamp = entry.stamp; name = n })) area.now (frames_of (bytes_at f name) out) stored) ≡ reached_by f own result area.now }
+    ensures { (f : List ℕ) → judge_whole receiver.core.reading crc (saved_by (Some entry) (named_in receiver f renamed)) area.now (frames_of (named_in receiver f renamed) out) stored ≡ move_by receiver f area.now result }
 {
-    if entry.kept == entry.size {
-        let size = entry.size as usize;
-        let own = crc::crc_by(reading, fields::part(area, 0, size));
-        if own == crc {
-            return Step {
-                state: ReceiverState::Ended {
-                    outcome: Outcome::Success,
-                },
-                keeping: Keeping::Of(entry),
-                out,
-                stored,
-                name,
-            };
-        }
-        return end(Outcome::CheckFailed, Keeping::Nothing, Out::Stop, stored);
-    }
-    Step {
+    let step = Step {
         state: ReceiverState::Extended { crc },
-        keeping: Keeping::Of(entry),
+        keeping: Some(entry),
+        renamed,
         out,
         stored,
-        name,
+    };
+    if entry.kept != entry.size {
+        return step;
+    }
+    let kept = fields::part(area, 0, entry.size as usize);
+    let whole = crc::crc_by(receiver.core.reading, kept);
+    if whole == crc {
+        return Step {
+            state: ReceiverState::Ended {
+                outcome: Outcome::Success,
+            },
+            ..step
+        };
+    }
+    Step {
+        state: ReceiverState::Ended {
+            outcome: Outcome::CheckFailed,
+        },
+        keeping: None,
+        out: Out::Stop,
+        ..step
     }
 }
 
 // At the announced size a basic transfer ends.
-pub fn basic_at(size: u32, kept: u32, keeping: Keeping, out: Out, stored: usize) -> Step
-    ensures { (f name a : List ℕ) → held_of keeping name ≡ keeping → reached name (basic_at size kept (saved_by keeping name) a (frames_of [] out) stored) ≡ reached_by f name result a }
+#[tactic(auto, unfolding(bin::specs::Steps::basic_at))]
+pub fn basic_at(receiver: Receiver, size: u32, kept: u32, out: Out, stored: usize) -> Step
+    ensures { (f a : List ℕ) → basic_at size kept (saved_in receiver) a (frames_of receiver.name out) stored ≡ move_by receiver f a result }
 {
     if kept == size {
-        return end(Outcome::Success, keeping, out, stored);
+        let state = ReceiverState::Ended {
+            outcome: Outcome::Success,
+        };
+        return go(receiver, state, out, stored);
     }
-    go(ReceiverState::Basic { size, kept }, keeping, out, stored)
+    go(receiver, ReceiverState::Basic { size, kept }, out, stored)
 }

@@ -1,12 +1,11 @@
 -- The sender of #BIN#: its beginnings, and what each call answers and leaves. (Document 01, "Lines of #BIN#", "Numbers that refuse or end".)
-use Rattle.std.specs.Prelude.{ℕ, Bool, ◌&&◌, List, [], length, take, replicate, leb}
+use Rattle.calls.specs.declared.Refusal.{Refusal}
+use Rattle.std.specs.Prelude.{ℕ, Bool, ◌&&◌, List, [], length, take, replicate, leb, Ok, Result}
 use Rattle.fields.specs.Pick.{pick}
 use Rattle.fields.specs.Name.{is_name}
 use Rattle.fields.specs.Buffer.{over, appended}
 use Rattle.calls.specs.declared.Outcome.{Outcome}
 use Rattle.calls.specs.declared.Outcome.TheVariants.{NameOutside, LengthOutside, BlockOutside, TimedOut, Stopped}
-use Rattle.calls.specs.declared.Status.{Status}
-use Rattle.calls.specs.declared.Status.TheVariants.{Taken}
 use Rattle.calls.specs.Checks.{check_of, unless}
 use Rattle.crc.specs.declared.Reading.{Reading}
 use Rattle.bin.specs.declared.Announce.{Announce}
@@ -67,7 +66,7 @@ settings_of m = record {
 }
 
 -- a refused call changes nothing anywhere
-abbrev pub refused_call : Sender → Status → List ℕ → SenderAfter
+abbrev pub refused_call : Sender → Result (Unit {0}) Refusal → List ℕ → SenderAfter
 refused_call m s reply = record { answer = record { sender = m; status = s; sent = 0 }; reply = reply }
 
 -- the frame that is sent stands at the front of the reply buffer
@@ -84,18 +83,18 @@ replied m a reply = record {
         block = m.core.block;
       };
     };
-    status = Taken;
+    status = (Ok tt);
     sent = length (joined a.out);
   };
   reply = over 0 (joined a.out) reply;
 }
 
 -- the checks of a call, with a frame of so many bytes
-abbrev pub status_of : Sender → ℕ → List ℕ → List ℕ → Status
+abbrev pub status_of : Sender → ℕ → List ℕ → List ℕ → Result (Unit {0}) Refusal
 status_of m frame file reply = check_of (sender_ended m.core.state) (length reply) frame (length file) m.core.size
 
-abbrev pub unless_refused : Status → Sender → List ℕ → SenderAfter → SenderAfter
-unless_refused s m reply after = unless s (λ (x : Status). refused_call m x reply) after
+abbrev pub unless_refused : Result (Unit {0}) Refusal → Sender → List ℕ → SenderAfter → SenderAfter
+unless_refused s m reply after = unless s (λ (x : Result (Unit {0}) Refusal). refused_call m x reply) after
 
 -- what a call leaves that makes the move a where it is taken; frame is how many bytes have come with it
 abbrev pub answered : Sender → ℕ → List ℕ → List ℕ → SenderMove → SenderAfter

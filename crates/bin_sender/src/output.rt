@@ -16,17 +16,14 @@ fn put_line(sender: Sender, file: &[u8], reply: &mut [u8]) -> usize
     ensures { Laid (line_of (settings_of sender) file.now) reply.old reply.new result }
 {
     let core = sender.core;
-    let announce = core.announce;
-    match announce {
+    match core.announce {
         Announce::Basic => calls::count(file_line::write_basic(reply, core.size)),
         Announce::Extended {
             stamp,
             resumes,
             reading,
         } => {
-            let name = sender.name;
-            let all = &name[..];
-            let own = fields::part(all, 0, core.named);
+            let own = fields::part(&sender.name, 0, core.named);
             let crc = crc::crc_by(reading, file);
             calls::count(file_line::write_line(reply, core.size, crc, stamp, resumes, own))
         }

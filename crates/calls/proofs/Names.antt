@@ -1,4 +1,6 @@
 -- A name that stands at the front of an array, kept there. Assumes nothing.
+use Rattle.calls.specs.declared.Entry.{Entry}
+use Rattle.std.specs.Prelude.{None, Option, Some}
 use mathlib.Core.Path.{◌≡◌, refl, sym, ap}
 use mathlib.Core.List.{List, [], ◌∷◌, ◌++◌}
 use Prim.Native.Nat.{ℕ, zero, suc, ◌+◌}
@@ -8,8 +10,6 @@ use lib.Dec.{leb}
 use Rattle.fields.specs.Buffer.{over, appended}
 use Rattle.fields.proofs.Lists.{either}
 use Rattle.fields.proofs.Buffer.{append-none}
-use Rattle.calls.specs.declared.Keeping.{Keeping}
-use Rattle.calls.specs.declared.Keeping.TheVariants.{Nothing, Of}
 use Rattle.calls.specs.Saving.{saved_by, keeping_of, name_of}
 
 front : (n : ℕ) (s : List ℕ) → take n s ++ drop (length (take n s)) s ≡ s
@@ -30,13 +30,13 @@ pub keep-none : (s : List ℕ) → appended 0 [] s ≡ s
 keep-none s = sym (append-none 0 s).1
 
 -- the record's own name, laid over the array where it stands
-pub keep-own : (k : Keeping) (name : List ℕ) → appended 0 (name_of (saved_by k name)) name ≡ name
-keep-own Nothing name = keep-none name
-keep-own (Of e) name = keep-front e.named name
+pub keep-own : (k : Option Entry) (name : List ℕ) → appended 0 (name_of (saved_by k name)) name ≡ name
+keep-own None name = keep-none name
+keep-own (Some e) name = keep-front e.named name
 
-pub held-saved : (k : Keeping) (name : List ℕ) → saved_by (keeping_of (saved_by k name)) name ≡ saved_by k name
-held-saved Nothing name = refl
-held-saved (Of e) name = rw (take_count e.named name)
+pub held-saved : (k : Option Entry) (name : List ℕ) → saved_by (keeping_of (saved_by k name)) name ≡ saved_by k name
+held-saved None name = refl
+held-saved (Some e) name = rw (take_count e.named name)
 
-pub held-held : (k : Keeping) (name : List ℕ) → keeping_of (saved_by (keeping_of (saved_by k name)) name) ≡ keeping_of (saved_by k name)
+pub held-held : (k : Option Entry) (name : List ℕ) → keeping_of (saved_by (keeping_of (saved_by k name)) name) ≡ keeping_of (saved_by k name)
 held-held k name = ap keeping_of (held-saved k name)

@@ -1,12 +1,10 @@
 -- The number of every outcome and status. (Document 01, "Numbers that refuse or end", and change request 2026-02.)
-use Rattle.std.specs.Prelude.{ℕ}
+use Rattle.calls.specs.declared.Refusal.TheVariants.{LongFrame, Over, SmallReply, WrongLength}
+use Rattle.calls.specs.declared.Refusal.{Refusal}
+use Rattle.std.specs.Prelude.{ℕ, Err, None, Ok, Option, Result, Some}
 use Rattle.fields.specs.Faults.{flaw_number}
 use Rattle.calls.specs.declared.Outcome.{Outcome}
 use Rattle.calls.specs.declared.Outcome.TheVariants.{Success, RecordUnreadable, RecordOver, NameOutside, LengthOutside, BlockOutside, Unexpected, Malformed, NoRoom, HaveFile, Differs, CheckFailed, PastSize, Short, Refused, Cancelled, NotOurs, TimedOut, SecondFile, Stopped}
-use Rattle.calls.specs.declared.Offset.{Offset}
-use Rattle.calls.specs.declared.Offset.TheVariants.{At, Nowhere}
-use Rattle.calls.specs.declared.Status.{Status}
-use Rattle.calls.specs.declared.Status.TheVariants.{Taken, Over, LongFrame, SmallReply, WrongLength}
 
 unfoldable pub outcome_number : Outcome → ℕ
 outcome_number Success = 0
@@ -31,31 +29,31 @@ outcome_number SecondFile = 21
 outcome_number Stopped = 23
 
 -- where it was wrong: a malformed header, line or OK has a place, every other outcome none
-unfoldable pub outcome_offset : Outcome → Offset
-outcome_offset Success = Nowhere
-outcome_offset RecordUnreadable = Nowhere
-outcome_offset RecordOver = Nowhere
-outcome_offset NameOutside = Nowhere
-outcome_offset LengthOutside = Nowhere
-outcome_offset BlockOutside = Nowhere
-outcome_offset Unexpected = Nowhere
-outcome_offset (Malformed f) = At f.offset
-outcome_offset NoRoom = Nowhere
-outcome_offset HaveFile = Nowhere
-outcome_offset Differs = Nowhere
-outcome_offset CheckFailed = Nowhere
-outcome_offset PastSize = Nowhere
-outcome_offset Short = Nowhere
-outcome_offset Refused = Nowhere
-outcome_offset Cancelled = Nowhere
-outcome_offset NotOurs = Nowhere
-outcome_offset TimedOut = Nowhere
-outcome_offset SecondFile = Nowhere
-outcome_offset Stopped = Nowhere
+unfoldable pub outcome_offset : Outcome → Option ℕ
+outcome_offset Success = None
+outcome_offset RecordUnreadable = None
+outcome_offset RecordOver = None
+outcome_offset NameOutside = None
+outcome_offset LengthOutside = None
+outcome_offset BlockOutside = None
+outcome_offset Unexpected = None
+outcome_offset (Malformed f) = Some f.offset
+outcome_offset NoRoom = None
+outcome_offset HaveFile = None
+outcome_offset Differs = None
+outcome_offset CheckFailed = None
+outcome_offset PastSize = None
+outcome_offset Short = None
+outcome_offset Refused = None
+outcome_offset Cancelled = None
+outcome_offset NotOurs = None
+outcome_offset TimedOut = None
+outcome_offset SecondFile = None
+outcome_offset Stopped = None
 
-unfoldable pub status_number : Status → ℕ
-status_number Taken = 0
-status_number Over = 18
-status_number LongFrame = 19
-status_number SmallReply = 20
-status_number WrongLength = 40
+unfoldable pub status_number : Result (Unit {0}) Refusal → ℕ
+status_number (Ok tt) = 0
+status_number (Err Over) = 18
+status_number (Err LongFrame) = 19
+status_number (Err SmallReply) = 20
+status_number (Err WrongLength) = 40

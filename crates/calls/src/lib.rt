@@ -6,7 +6,7 @@ ghost use Rattle.calls.specs.Numbers.{status_number};
 ghost use Rattle.calls.specs.Checks.{check_of, check_number, is_taken};
 ghost use Rattle.calls.specs.Count.{count_of, record_count};
 
-use fields::{Fault, Limits, Stamp, Written};
+use fields::{Fault, Limits, WriteError};
 
 pub mod outcomes;
 pub mod saving;
@@ -54,17 +54,9 @@ pub enum Outcome {
     Stopped,
 }
 
-// The place that goes with a malformed header, line or OK: in its data or in the frame.
-#[derive(Clone, Copy)]
-pub enum Offset {
-    At(usize),
-    Nowhere,
-}
-
-// Whether a call was taken, or why it was refused: a refused call changes nothing anywhere.
-#[derive(Clone, Copy)]
-pub enum Status {
-    Taken,
+// Why a call was refused: a refused call changes nothing anywhere. One that was taken answers Ok.
+#[derive(Clone, Copy, PartialEq, Eq, Debug)]
+pub enum Refusal {
     // 18: the end has ended.
     Over,
     // 19: a frame over 256 bytes.
@@ -82,72 +74,56 @@ pub struct Entry {
     pub named: usize,
     pub size: u32,
     pub kept: u32,
-    pub stamp: Stamp,
-}
-
-#[derive(Clone, Copy)]
-pub enum Keeping {
-    Nothing,
-    Of(Entry),
-}
-
-// What the writing of a receiver's record answers.
-#[derive(Clone, Copy)]
-pub enum RecordAnswer {
-    NoRecord,
-    Record(Written),
+    // The DOS date times 65,536 plus the time, where there is one.
+    pub stamp: Option<u32>,
 }
 
 // Calls are checked 18, 20, 19, 40: whether the end has ended, how long the reply buffer and the frame are, and how long the lent file or
 // area is and was said to be at the start.
-pub fn check(ended: bool, reply: usize, frame: usize, lent: usize, given: usize) -> Status
+pub fn check(
+    ended: bool,
+    reply: usize,
+    frame: usize,
+    lent: usize,
+    given: usize,
+) -> Result<(), Refusal>
     ensures { (result ≡ check_of ended reply frame lent given) × (status_number result ≡ check_number ended reply frame lent given) }
 {
     if ended {
-        return Status::Over;
+        return Err(Refusal::Over);
     }
     if reply < Limits::REPLY {
-        return Status::SmallReply;
+        return Err(Refusal::SmallReply);
     }
     if Limits::FRAME < frame {
-        return Status::LongFrame;
+        return Err(Refusal::LongFrame);
     }
-    if lent == given {
-        return Status::Taken;
+    if lent != given {
+        return Err(Refusal::WrongLength);
     }
-    Status::WrongLength
+    Ok(())
 }
 
 // Whether the call is taken.
-pub fn is_taken(status: Status) -> bool
+pub fn is_taken(status: Result<(), Refusal>) -> bool
     ensures { result ≡ is_taken status }
 {
-    match status {
-        Status::Taken => true,
-        Status::Over => false,
-        Status::LongFrame => false,
-        Status::SmallReply => false,
-        Status::WrongLength => false,
-    }
+    status.is_ok()
 }
 
 // How many bytes were written.
-pub fn count(written: Written) -> usize
+pub fn count(written: Result<usize, WriteError>) -> usize
     ensures { result ≡ count_of written }
 {
-    match written {
-        Written::Bytes(n) => n,
-        Written::Small => 0,
-        Written::Formless => 0,
-    }
+    written.unwrap_or(0)
 }
 
 // The same of a record; none where there is none.
-pub fn record_count(answer: RecordAnswer) -> usize
+pub fn record_count(answer: Option<Result<usize, WriteError>>) -> usize
     ensures { result ≡ record_count answer }
 {
     match answer {
-        RecordAnswer::NoRecord => 0,
-        RecordAnswer::Record(written) => count(written),
+        Some(written) => count(written),
+        None => 0,
     }
 }

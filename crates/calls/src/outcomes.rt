@@ -1,21 +1,21 @@
 // The number of every answer. (Document 01, "Numbers that refuse or end", and change request 2026-02.)
-ghost use Rattle.std.specs.Prelude.{◌≡◌};
+ghost use Rattle.std.specs.Prelude.{◌≡◌, Err};
 ghost use Rattle.fields.specs.Faults.{flaw_number};
 ghost use Rattle.fields.specs.Buffer.{written_number};
 ghost use Rattle.records.specs.Record.{read_number};
 ghost use Rattle.calls.specs.Numbers.{outcome_number, outcome_offset, status_number};
 ghost use Rattle.calls.specs.Recording.{record_number};
 
-use crate::{Offset, Outcome, RecordAnswer, Status};
-use fields::{Fault, Flaw, Written};
-use records::RecordRead;
+use crate::{Outcome, Refusal};
+use fields::{Fault, Flaw, WriteError};
+use records::Record;
 
 // 71 to 76; 7 for every other fault.
+#[tactic(auto, unfolding(fields::specs::Faults::flaw_number))]
 fn fault_number(fault: Fault) -> u8
     ensures { result ≡ flaw_number fault.flaw }
 {
-    let flaw = fault.flaw;
-    match flaw {
+    match fault.flaw {
         Flaw::NameOpen => 71,
         Flaw::NameLength => 72,
         Flaw::NameByte => 73,
@@ -27,6 +27,7 @@ fn fault_number(fault: Fault) -> u8
 }
 
 // How an end ended: 0 for success, else the number that ended it.
+#[tactic(auto, unfolding(crate::specs::Numbers::outcome_number))]
 pub fn outcome_number(outcome: Outcome) -> u8
     ensures { result ≡ outcome_number outcome }
 {
@@ -55,55 +56,78 @@ pub fn outcome_number(outcome: Outcome) -> u8
 }
 
 // The place that goes with 71 to 76 and 7; no other number has one.
-pub fn outcome_offset(outcome: Outcome) -> Offset
+#[tactic(auto, unfolding(crate::specs::Numbers::outcome_offset))]
+pub fn outcome_offset(outcome: Outcome) -> Option<usize>
     ensures { result ≡ outcome_offset outcome }
 {
-    let Outcome::Malformed(fault) = outcome else {
-        return Offset::Nowhere;
-    };
-    Offset::At(fault.offset)
+    match outcome {
+        Outcome::Malformed(fault) => Some(fault.offset),
+        _ => None,
+    }
+}
+
+#[tactic(auto, unfolding(crate::specs::Numbers::status_number))]
+fn refusal_number(refusal: Refusal) -> u8
+    ensures { result ≡ status_number (Err refusal) }
+{
+    match refusal {
+        Refusal::Over => 18,
+        Refusal::LongFrame => 19,
+        Refusal::SmallReply => 20,
+        Refusal::WrongLength => 40,
+    }
 }
 
 // The number that refused a call; 0 where it was taken.
-pub fn status_number(status: Status) -> u8
+#[tactic(auto, unfolding(crate::specs::Numbers::status_number))]
+pub fn status_number(status: Result<(), Refusal>) -> u8
     ensures { result ≡ status_number status }
 {
     match status {
-        Status::Taken => 0,
-        Status::Over => 18,
-        Status::LongFrame => 19,
-        Status::SmallReply => 20,
-        Status::WrongLength => 40,
+        Ok(()) => 0,
+        Err(refusal) => refusal_number(refusal),
+    }
+}
+
+#[tactic(auto, unfolding(fields::specs::Buffer::written_number))]
+fn error_number(error: WriteError) -> u8
+    ensures { result ≡ written_number (Err error) }
+{
+    match error {
+        WriteError::Small => 20,
+        WriteError::Formless => 22,
     }
 }
 
 // The number that a writer refused with; 0 where it wrote.
-pub fn written_number(written: Written) -> u8
+#[tactic(auto, unfolding(fields::specs::Buffer::written_number))]
+pub fn written_number(written: Result<usize, WriteError>) -> u8
     ensures { result ≡ written_number written }
 {
     match written {
-        Written::Bytes(_) => 0,
-        Written::Small => 20,
-        Written::Formless => 22,
+        Ok(_) => 0,
+        Err(error) => error_number(error),
     }
 }
 
 // The same of a receiver that was asked for its record; 0 also where it has none.
-pub fn record_answer_number(answer: RecordAnswer) -> u8
+#[tactic(auto, unfolding(crate::specs::Recording::record_number))]
+pub fn record_answer_number(answer: Option<Result<usize, WriteError>>) -> u8
     ensures { result ≡ record_number answer }
 {
     match answer {
-        RecordAnswer::NoRecord => 0,
-        RecordAnswer::Record(written) => written_number(written),
+        None => 0,
+        Some(written) => written_number(written),
     }
 }
 
 // 1 where the bytes are no record; 0 where they are.
-pub fn read_number(read: RecordRead) -> u8
+#[tactic(auto, unfolding(records::specs::Record::read_number))]
+pub fn read_number(read: Option<Record>) -> u8
     ensures { result ≡ read_number read }
 {
     match read {
-        RecordRead::Good(_) => 0,
-        RecordRead::Unreadable => 1,
+        Some(_) => 0,
+        None => 1,
     }
 }

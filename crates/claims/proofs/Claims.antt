@@ -1,19 +1,18 @@
 -- What is claimed, in full, each claim proved by citing its theorem. To believe one, read it and the definitions that it names (specs/ of the
 -- crate in its `use` line) beside the paper; no proof need be read. What code promises stands in its contracts, which cite the same definitions.
 -- Assumes nothing.
+use Rattle.std.specs.Prelude.{Some, Option}
 use Prim.Native.Nat.{ℕ, suc, ◌≤◌, ◌<◌, ◌^◌}
 use mathlib.Core.Path.{◌≡◌}
 use mathlib.Core.Bool.{Bool, true, false}
 use mathlib.Core.List.{List, [], ◌∷◌, ◌++◌, flatten}
 use mathlib.Core.Logic.{◌⊎◌}
-use mathlib.Core.Option.{Option}
 use lib.ListN.{length, get_or, drop}
 use Rattle.fields.specs.Name.{is_name}
 use Rattle.fields.specs.Lists.{all, bytes_at}
 use Rattle.fields.specs.Buffer.{bytes}
 use Rattle.fields.specs.declared.Fault.{Fault}
 use Rattle.fields.specs.declared.Flaw.TheVariants.{Other}
-use Rattle.numbers.specs.declared.Number.TheVariants.{Value}
 use Rattle.numbers.specs.Writing.{decimal, hex, little}
 use Rattle.numbers.specs.Reading.{read_decimal, read_hex, read_little}
 use Rattle.numbers.specs.Canonical.{plain, capitals, is_byte}
@@ -41,7 +40,6 @@ use Rattle.packets.proofs.Offending as header-faults
 use Rattle.packet_stream.specs.Reader.{fresh}
 use Rattle.packet_stream.specs.Stream.{stream_of, hand_all, Bytes}
 use Rattle.packet_stream.proofs.Chunks as chunks
-use Rattle.faults.specs.declared.Check.TheVariants.{Faulty}
 use Rattle.faults.specs.Faults.{check_header, check_line, check_ok, is_sound}
 use Rattle.faults.specs.Search.{header_faults, line_faults}
 use Rattle.faults.specs.Place.{FirstOffending}
@@ -57,7 +55,6 @@ use Rattle.lines.proofs.Limits as line-limits
 use Rattle.lines.proofs.Faults as line-tables
 use Rattle.lines.proofs.Offending as line-faults
 use Rattle.records.specs.declared.Record.{Record}
-use Rattle.records.specs.declared.RecordRead.TheVariants.{Good}
 use Rattle.records.specs.Record.{record_of}
 use Rattle.records.specs.Saved.{Saved, saved_of, record_form}
 use Rattle.records.proofs.RoundTrip as records
@@ -203,7 +200,7 @@ header-place k b f e = (header-faults.place k b f e, header-faults.short k b f e
 
 -- number and place are those of the fault that counts: each looked for by itself, a part where the one before it is closed; the earliest place, then
 -- the lower number
-pub header-least : (k : Bool) (b : List ℕ) (f : Fault) → packet_of k b ≡ Malformed f → header_faults (front_data k b) ≡ Faulty f
+pub header-least : (k : Bool) (b : List ℕ) (f : Fault) → packet_of k b ≡ Malformed f → header_faults (front_data k b) ≡ Some f
 header-least = header-faults.least
 
 -- for any data the table and that search find the same, and they find a fault exactly where the reading calls a header malformed
@@ -218,7 +215,7 @@ pub line-place : (b : List ℕ) (f : Fault) → frame_of b ≡ MalformedLine f
     → FirstOffending (λ (s : List ℕ). is_line (frame_of s)) b f.offset × (f.offset ≤ 97)
 line-place b f e = (line-faults.place-line b f e, line-faults.short-line b f e)
 
-pub line-least : (b : List ℕ) (f : Fault) → frame_of b ≡ MalformedLine f → line_faults 5 (drop 5 b) ≡ Faulty f
+pub line-least : (b : List ℕ) (f : Fault) → frame_of b ≡ MalformedLine f → line_faults 5 (drop 5 b) ≡ Some f
 line-least = line-faults.least
 
 pub line-table : (b : List ℕ) → check_line b ≡ line_faults 5 (drop 5 b)
@@ -258,16 +255,16 @@ ok-carried = bin-carried.carried-ok
 
 -- ---- THE SAVED RECORD, both ways (crates/records)
 
-pub record-reads-back : (s : Saved) (b : List ℕ) → record_form s ≡ bytes b → (r : Record) × (record_of b ≡ Good r) × (saved_of b r ≡ s)
+pub record-reads-back : (s : Saved) (b : List ℕ) → record_form s ≡ bytes b → (r : Record) × (record_of b ≡ Some r) × (saved_of b r ≡ s)
 record-reads-back = records.reads-back
 
-pub record-writes-back : (b : List ℕ) (r : Record) → all is_byte b ≡ true → record_of b ≡ Good r → record_form (saved_of b r) ≡ bytes b
+pub record-writes-back : (b : List ℕ) (r : Record) → all is_byte b ≡ true → record_of b ≡ Some r → record_form (saved_of b r) ≡ bytes b
 record-writes-back = records.writes-back
 
 pub record-lengths : (s : Saved) (b : List ℕ) → record_form s ≡ bytes b → (14 ≤ length b) × (length b ≤ 81)
 record-lengths = records.record-length
 
-pub record-limits : (b : List ℕ) (r : Record) → record_of b ≡ Good r → (is_name (saved_of b r).name ≡ true) × (r.size ≤ 99999999)
+pub record-limits : (b : List ℕ) (r : Record) → record_of b ≡ Some r → (is_name (saved_of b r).name ≡ true) × (r.size ≤ 99999999)
 record-limits = records.read-limits
 
 -- ---- THE LISTING (crates/listing)
@@ -293,22 +290,22 @@ two-readings = readings.augmented
 
 -- ---- NUMBERS IN DIGITS AND BYTES (crates/numbers), once over the width
 
-pub decimal-read : (w n : ℕ) → n < 10 ^ 20 → n < 10 ^ suc w → read_decimal (suc w) (decimal n) ≡ Value n
+pub decimal-read : (w n : ℕ) → n < 10 ^ 20 → n < 10 ^ suc w → read_decimal (suc w) (decimal n) ≡ Some n
 decimal-read = numbers.read-decimal
 
-pub decimal-back : (w v : ℕ) (s : List ℕ) → w ≤ 20 → read_decimal w s ≡ Value v → plain s ≡ true → decimal v ≡ s
+pub decimal-back : (w v : ℕ) (s : List ℕ) → w ≤ 20 → read_decimal w s ≡ Some v → plain s ≡ true → decimal v ≡ s
 decimal-back = numbers.decimal-back
 
-pub hex-read : (v : ℕ) → v < 16 ^ 8 → read_hex (hex 8 v) ≡ Value v
+pub hex-read : (v : ℕ) → v < 16 ^ 8 → read_hex (hex 8 v) ≡ Some v
 hex-read = numbers.read-hex
 
-pub hex-back : (v : ℕ) (s : List ℕ) → read_hex s ≡ Value v → capitals s ≡ true → hex 8 v ≡ s
+pub hex-back : (v : ℕ) (s : List ℕ) → read_hex s ≡ Some v → capitals s ≡ true → hex 8 v ≡ s
 hex-back = numbers.hex-back
 
-pub little-read : (w v : ℕ) → w ≤ 4 → v < 256 ^ w → read_little (little w v) ≡ Value v
+pub little-read : (w v : ℕ) → w ≤ 4 → v < 256 ^ w → read_little (little w v) ≡ Some v
 little-read = numbers.read-little
 
-pub little-back : (v : ℕ) (s : List ℕ) → read_little s ≡ Value v → all is_byte s ≡ true → little (length s) v ≡ s
+pub little-back : (v : ℕ) (s : List ℕ) → read_little s ≡ Some v → all is_byte s ≡ true → little (length s) v ≡ s
 little-back = numbers.little-back
 
 -- ---- DOCUMENT 01'S EXAMPLES MARKED P, AND REQUEST 2026-06'S, each what the paper prints or its rule gives (the list:

@@ -2,21 +2,23 @@
 -- Assumes nothing.
 use mathlib.Core.Path.{◌≡◌, refl, sym, ap, ap₂, ◌∙◌}
 use mathlib.Core.List.{List, [], ◌∷◌}
-use Prim.Native.Nat.{ℕ, ◌+◌, ◌-◌, ◌*◌, ◌/◌, ◌%◌, ◌^◌, ◌≤◌, ◌<◌}
+use Prim.Native.Nat.{ℕ, zero, suc, ◌≤◌, ◌+◌, ◌-◌, ◌*◌, ◌/◌, ◌%◌, ◌^◌, ◌<◌}
 use native.Mathlib.Nat.{zero-add, div-add-mod'}
+use native.Mathlib.Numerals.{add-one}
 use native.Mathlib.Omega.{arith}
+use Rattle.std.proofs.Math.Seq.{take-suc}
 use lib.Dec.{eqb, lit<}
-use lib.ListN.{length, get_or, set, take, drop, length-drop}
+use lib.ListN.{length, replicate, get_or, set, take}
 use mathlib.Core.Bool.{Bool, true, false}
 use borrow.Author.Tests.{eqb-true, eqb-false}
 use lib.Seq.{take_all, get_or-set_same, get_or-set_other}
-use lib.Bits.{bit_xor, xor_lt, xor_shifted, xor_zero_r}
+use lib.Bits.{bit_xor, xor_lt, xor_shifted, xor_zero_l, xor_zero_r}
 use Rattle.crc.specs.declared.Reading.{Reading}
 use Rattle.crc.specs.declared.Reading.TheVariants.{Bare, Augmented}
 use Rattle.crc.specs.Crc.{reduced, remainder, entry, listed, byte_step, walk_from}
-use Rattle.crc.specs.Rows.{times, rows_at, row_of, Filled, eight_steps}
+use Rattle.crc.specs.Rows.{times, rows_at, row_of, AreRows, eight_steps}
 use Rattle.crc.proofs.Table.{listed-from}
-use Rattle.crc.proofs.Laws.{step-lt, walk_turn}
+use Rattle.crc.proofs.Laws.{step-lt, walk-lt, walk-more}
 use Rattle.crc.proofs.Xor.{xor-swap, mix, mix-late}
 use Rattle.crc.proofs.Times.{times-lt, times-xor, times-add}
 
@@ -75,21 +77,14 @@ rows_next i h =
     let m : j % 256 ≡ i % 256 = omega arith in
     step-zero r l ∙ times-add 8 (8 * (j / 256)) (j % 256) ∙ ap (λ (n : ℕ). times n (j % 256)) e ∙ ap (times (8 * (i / 256))) m
 
--- the first row has the bytes themselves
-pub rows-first : (i : ℕ) → i < 256 → i ≡ rows_at i
-unfolding rows_at
-rows-first i h =
-    let e : 0 ≡ 8 * (i / 256) = omega arith in
-    let m : i ≡ i % 256 = omega arith in
-    sym (times_none i) ∙ ap (λ (n : ℕ). times n i) e ∙ ap (times (8 * (i / 256))) m
+-- row 0 has the bytes themselves; a step with 0 leads from a row to the next
+pub row-first : (b : ℕ) → b ≡ times (8 * 0) b
+row-first b = sym (times_none b)
 
--- an entry of the rows, by where its row starts
-pub rows_row : (at k b : ℕ) → at ≡ 32 * k → at % 256 ≡ 0 → b < 256 → rows_at (at + b) ≡ times k b
-unfolding rows_at
-rows_row at k b s z h =
-    let e : 8 * ((at + b) / 256) ≡ k = omega arith in
-    let m : (at + b) % 256 ≡ b = omega arith in
-    ap (λ (n : ℕ). times n ((at + b) % 256)) e ∙ ap (times k) m
+pub row-next : (j b x : ℕ) → 0 < j → b < 256 → x ≡ times (8 * (j - 1)) b → byte_step Bare x 0 ≡ times (8 * j) b
+row-next j b x p h e =
+    let k : 8 + 8 * (j - 1) ≡ 8 * j = omega arith in
+    ap (λ (n : ℕ). byte_step Bare n 0) e ∙ step-zero (times (8 * (j - 1)) b) (times-lt (8 * (j - 1)) b (omega arith)) ∙ times-add 8 (8 * (j - 1)) b ∙ ap (λ (n : ℕ). times n b) k
 
 -- eight steps: r and each byte times a power of x of its own
 pub eight : (q : Reading) (r a b c d e f g h : ℕ) → r < 2 ^ 16 → a < 256 → b < 256 → c < 256 → d < 256 → e < 256 → f < 256 → g < 256 → h < 256
@@ -107,57 +102,74 @@ eight q r a b c d e f g h hr ha hb hc hd he hf hg hh =
     rw (step-times q r7 h (step-lt q r6 g hg) hh, times-step q 8 r6 g (step-lt q r5 f hf) hg, times-step q 16 r5 f (step-lt q r4 e he) hf, times-step q 24 r4 e (step-lt q r3 d hd) he, times-step q 32 r3 d (step-lt q r2 c hc) hd, times-step q 40 r2 c (step-lt q r1 b hb) hc, times-step q 48 r1 b (step-lt q r a ha) hb, times-step q 56 r a hr ha)
     (mix-late (times 64 r) (times (56 + 8 * row_of q) a) (times (48 + 8 * row_of q) b ∷ times (40 + 8 * row_of q) c ∷ times (32 + 8 * row_of q) d ∷ times (24 + 8 * row_of q) e ∷ times (16 + 8 * row_of q) f ∷ times (8 + 8 * row_of q) g ∷ times (8 * row_of q) h ∷ []))
 
--- no entry is there; one entry more
-pub filled_none : (t : List ℕ) → Filled 0 t
-filled_none t k h = absurd (omega arith)
+-- a walk over s from a xor b: b goes on times x^8 for each byte
+walk-xor : (q : Reading) (a b : ℕ) (s : List ℕ) → a < 2 ^ 16 → b < 2 ^ 16 → ((i : ℕ) → get_or s i 0 < 256)
+    → walk_from q (bit_xor a b) s ≡ bit_xor (walk_from q a s) (times (8 * length s) b)
+unfolding walk_from
+walk-xor q a b [] ha hb hs = ap (bit_xor a) (sym (times_none b))
+walk-xor q a b (c ∷ s) ha hb hs =
+    let x = times (8 * row_of q) c in
+    let e : byte_step q (bit_xor a b) c ≡ bit_xor (byte_step q a c) (times 8 b) =
+    step-times q (bit_xor a b) c (xor_lt 16 a b ha hb) (hs 0) ∙ ap (λ (n : ℕ). bit_xor n x) (times-xor 8 a b ha hb)
+    ∙ xor-swap (times 8 a) (times 8 b) x ∙ ap (λ (n : ℕ). bit_xor n (times 8 b)) (sym (step-times q a c ha (hs 0))) in
+    let m : 8 * length s + 8 ≡ 8 * length (c ∷ s) = omega arith in
+    ap (λ (n : ℕ). walk_from q n s) e ∙ walk-xor q (byte_step q a c) (times 8 b) s (step-lt q a c (hs 0)) (times-lt 8 b hb) (λ i. hs (suc i))
+    ∙ ap (bit_xor (walk_from q (byte_step q a c) s)) (times-add (8 * length s) 8 b ∙ ap (λ (n : ℕ). times n b) m)
 
-pub filled_more : (t : List ℕ) (i x : ℕ) → Filled i t → x ≡ rows_at i → i < length t → Filled (i + 1) (set t i x)
-filled_more t i x w e h k q = go (eqb k i) refl
+-- so the value before eight bytes waits, and goes in times x^64
+pub walk-eight : (q : Reading) (r : ℕ) (s : List ℕ) (x : ℕ) → r < 2 ^ 16 → ((i : ℕ) → get_or s i 0 < 256) → length s ≡ 8
+    → x ≡ walk_from q 0 s → (ti tj : ℕ) → ti ≡ times 72 (r / 256) → tj ≡ times 64 (r % 256) → bit_xor x (bit_xor ti tj) ≡ walk_from q r s
+walk-eight q r s x h hs l e ti tj ei ej =
+    rw (e, ei, ej, sym (times-parts 64 r h))
+    (ap (λ (n : ℕ). bit_xor (walk_from q 0 s) (times (8 * n) r)) (sym l) ∙ sym (walk-xor q 0 r s (lit< tt) h hs) ∙ ap (λ (n : ℕ). walk_from q n s) (xor_zero_l r))
+
+-- the walk over the first i of eight bytes, times what is left to the last of them
+abbrev pub ahead : Reading → List ℕ → ℕ → ℕ
+ahead q s i = times (8 * (8 - i)) (walk_from q 0 (take i s))
+
+times-zero : (k : ℕ) → times k 0 ≡ 0
+unfolding times reduced
+times-zero zero = refl
+times-zero (suc k) = ap (λ (n : ℕ). reduced (n * 2)) (times-zero k)
+
+pub ahead-first : (q : Reading) (s : List ℕ) → 0 ≡ ahead q s 0
+unfolding walk_from
+ahead-first q s = sym (times-zero 64)
+
+take-bytes : (i : ℕ) (s : List ℕ) → ((k : ℕ) → get_or s k 0 < 256) → (k : ℕ) → get_or (take i s) k 0 < 256
+take-bytes zero s hs k = lit< tt
+take-bytes (suc i) [] hs k = lit< tt
+take-bytes (suc i) (c ∷ s) hs zero = hs 0
+take-bytes (suc i) (c ∷ s) hs (suc k) = take-bytes i s (λ j. hs (suc j)) k
+
+pub ahead-next : (q : Reading) (s : List ℕ) (i x y : ℕ) → ((k : ℕ) → get_or s k 0 < 256) → i < 8 → i < length s
+    → x ≡ ahead q s i → y ≡ times (8 * (row_of q + 7 - i)) (get_or s i 0) → bit_xor x y ≡ ahead q s (i + 1)
+ahead-next q s i x y hs h l e f =
+    let c = get_or s i 0 in
+    let w = walk_from q 0 (take i s) in
+    let k = 8 * (8 - suc i) in
+    let m : 8 * (8 - i) ≡ k + 8 = omega arith in
+    let n : 8 * (row_of q + 7 - i) ≡ k + 8 * row_of q = omega arith in
+    rw (add-one, take-suc s i 0 l, walk-more q 0 (take i s) c)
+    (ap₂ bit_xor (e ∙ ap (λ (j : ℕ). times j w) m) (f ∙ ap (λ (j : ℕ). times j c) n) ∙ sym (times-step q k w c (walk-lt q 0 (take i s) (lit< tt) (take-bytes i s hs)) (hs i)))
+
+pub ahead-all : (q : Reading) (s : List ℕ) (i x : ℕ) → i ≡ 8 → length s ≡ 8 → x ≡ ahead q s i → x ≡ walk_from q 0 s
+ahead-all q s i x h l e =
+    e ∙ ap (ahead q s) (h ∙ sym l) ∙ ap (λ (k : ℕ). times (8 * (8 - k)) (walk_from q 0 (take (length s) s))) l ∙ times_none (walk_from q 0 (take (length s) s)) ∙ ap (walk_from q 0) (take_all (length s) s (omega arith))
+
+-- the rows so far, and one row more, each of whose entries is got by a step with 0
+pub rows_first : (row : List ℕ) → ((b : ℕ) → b < 256 → get_or row b 0 ≡ b) → AreRows 1 (replicate 10 row)
+rows_first row h zero l b k = h b k ∙ row-first b
+rows_first row h (suc j) l b k = absurd (omega arith)
+
+pub rows_more : (rows : List (List ℕ)) (j : ℕ) (row : List ℕ) → AreRows j rows → 0 < j → j < length rows
+    → ((b : ℕ) → b < 256 → get_or row b 0 ≡ byte_step Bare (get_or (get_or rows (j - 1) []) b 0) 0) → AreRows (j + 1) (set rows j row)
+rows_more rows j row h p l e k hk b hb = go (eqb k j) refl
   where
-    go : (b : Bool) → eqb k i ≡ b → get_or (set t i x) k 0 ≡ rows_at k
-    go true p =
-        let z : k ≡ i = eqb-true k i p in
-        rw z (get_or-set_same t i x 0 h ∙ e)
-    go false p =
-        let z : k ≡ i → ⊥ = eqb-false k i p in
-        get_or-set_other t i k x 0 z ∙ w k (omega (arith, z))
-
--- r times x^64 by what was looked up for its two bytes
-pub shifted : (r th tl : ℕ) → r < 2 ^ 16 → th ≡ rows_at (2304 + r / 256) → tl ≡ rows_at (2048 + r % 256) → bit_xor th tl ≡ times 64 r
-shifted r th tl h eh el =
-    rw (eh ∙ rows_row 2304 72 (r / 256) refl refl (omega arith), el ∙ rows_row 2048 64 (r % 256) refl refl (omega arith)) (sym (times-parts 64 r h))
-
--- eight steps by what was looked up in the rows, where that of the last byte starts at s
-pub eight-rows : (q : Reading) (r a b c d e f g h : ℕ) (s : ℕ) (ta tb tc td te tf tg th tr : ℕ) → s ≡ row_of q * 256
-    → r < 2 ^ 16 → a < 256 → b < 256 → c < 256 → d < 256 → e < 256 → f < 256 → g < 256 → h < 256
-    → ta ≡ rows_at (s + 1792 + a) → tb ≡ rows_at (s + 1536 + b) → tc ≡ rows_at (s + 1280 + c) → td ≡ rows_at (s + 1024 + d) → te ≡ rows_at (s + 768 + e) → tf ≡ rows_at (s + 512 + f) → tg ≡ rows_at (s + 256 + g) → th ≡ rows_at (s + h)
-    → tr ≡ times 64 r
-    → mix ta (tb ∷ tc ∷ td ∷ te ∷ tf ∷ tg ∷ th ∷ tr ∷ []) ≡ eight_steps q r a b c d e f g h
-eight-rows q r a b c d e f g h s ta tb tc td te tf tg th tr z hr ha hb hc hd he hf hg hh ea eb ec ed ee ef eg eh er =
-    rw (ea ∙ rows_row (s + 1792) (56 + 8 * row_of q) a (omega arith) (omega arith) ha, eb ∙ rows_row (s + 1536) (48 + 8 * row_of q) b (omega arith) (omega arith) hb, ec ∙ rows_row (s + 1280) (40 + 8 * row_of q) c (omega arith) (omega arith) hc, ed ∙ rows_row (s + 1024) (32 + 8 * row_of q) d (omega arith) (omega arith) hd, ee ∙ rows_row (s + 768) (24 + 8 * row_of q) e (omega arith) (omega arith) he, ef ∙ rows_row (s + 512) (16 + 8 * row_of q) f (omega arith) (omega arith) hf, eg ∙ rows_row (s + 256) (8 + 8 * row_of q) g (omega arith) (omega arith) hg, eh ∙ rows_row s (8 * row_of q) h (omega arith) (omega arith) hh, er)
-    (sym (eight q r a b c d e f g h hr ha hb hc hd he hf hg hh))
-
-turn-to : (q : Reading) (r : ℕ) (s : List ℕ) (i j : ℕ) → j ≡ i + 1 → i < length s → walk_from q r (drop i s) ≡ walk_from q (byte_step q r (get_or s i 0)) (drop j s)
-turn-to q r s i j e h = rw e (walk_turn q r s i h)
-
--- the rest, lent as a part that starts at i
-pub rest : (s : List ℕ) (i : ℕ) → take (length s - i) (drop i s) ≡ drop i s
-rest s i = take_all (length s - i) (drop i s) (simp length-drop (omega arith))
-
--- a turn by eight bytes, whose steps give x
-pub walk-eight : (q : Reading) (r : ℕ) (s : List ℕ) (i x : ℕ) → i + 8 ≤ length s
-    → x ≡ eight_steps q r (get_or s i 0) (get_or s (i + 1) 0) (get_or s (i + 2) 0) (get_or s (i + 3) 0) (get_or s (i + 4) 0) (get_or s (i + 5) 0) (get_or s (i + 6) 0) (get_or s (i + 7) 0)
-    → walk_from q r (drop i s) ≡ walk_from q x (drop (i + 8) s)
-walk-eight q r s i x h e =
-    let a = byte_step q r (get_or s i 0) in
-    let b = byte_step q a (get_or s (i + 1) 0) in
-    let c = byte_step q b (get_or s (i + 2) 0) in
-    let d = byte_step q c (get_or s (i + 3) 0) in
-    let f = byte_step q d (get_or s (i + 4) 0) in
-    let g = byte_step q f (get_or s (i + 5) 0) in
-    let k = byte_step q g (get_or s (i + 6) 0) in
-    turn-to q r s i (i + 1) refl (omega arith) ∙ turn-to q a s (i + 1) (i + 2) (omega arith) (omega arith)
-    ∙ turn-to q b s (i + 2) (i + 3) (omega arith) (omega arith) ∙ turn-to q c s (i + 3) (i + 4) (omega arith) (omega arith)
-    ∙ turn-to q d s (i + 4) (i + 5) (omega arith) (omega arith) ∙ turn-to q f s (i + 5) (i + 6) (omega arith) (omega arith)
-    ∙ turn-to q g s (i + 6) (i + 7) (omega arith) (omega arith) ∙ turn-to q k s (i + 7) (i + 8) (omega arith) (omega arith)
-    ∙ ap (λ (n : ℕ). walk_from q n (drop (i + 8) s)) (sym e)
+    go : (t : Bool) → eqb k j ≡ t → get_or (get_or (set rows j row) k []) b 0 ≡ times (8 * k) b
+    go true x =
+        let z : k ≡ j = eqb-true k j x in
+        rw (z, get_or-set_same rows j row [] l) (e b hb ∙ row-next j b _ p hb (h (j - 1) (omega arith) b hb))
+    go false x =
+        let z : k ≡ j → ⊥ = eqb-false k j x in
+        rw (get_or-set_other rows j k row [] z) (h k (omega (arith, z)) b hb)

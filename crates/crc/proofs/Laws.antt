@@ -1,33 +1,35 @@
--- Laws of the CRC, for the crates above: over two pieces, its bound; and those of the loop.
+-- Laws of the CRC, for the crates above: over two pieces, its bound.
 -- Assumes nothing.
-use mathlib.Core.Path.{◌≡◌, refl, ap, ◌∙◌}
+use mathlib.Core.Path.{◌≡◌, refl, sym, ap, ◌∙◌}
 use mathlib.Core.List.{List, [], ◌∷◌, ◌++◌}
-use Prim.Native.Nat.{ℕ, zero, suc, ◌+◌, ◌*◌, ◌/◌, ◌%◌, ◌^◌, ◌≤◌, ◌<◌}
-use native.Mathlib.Numerals.{add-one}
+use Prim.Native.Nat.{ℕ, zero, suc, ◌+◌, ◌*◌, ◌/◌, ◌%◌, ◌^◌, ◌<◌}
 use native.Mathlib.Omega.{arith}
 use lib.Dec.{lit<}
-use lib.ListN.{length, get_or, drop, drop_of_length-le}
-use lib.Seq.{drop-cons}
+use lib.ListN.{get_or, take, drop}
+use Rattle.std.proofs.lemmas.List.{take-append-drop}
 use lib.Bits.{bit_xor, xor_shr, xor_self, xor_lt}
 use Rattle.crc.specs.declared.Reading.{Reading}
 use Rattle.crc.specs.declared.Reading.TheVariants.{Bare, Augmented}
 use Rattle.crc.specs.Crc.{divisor, reduced, remainder, entry, byte_step, walk_from, crc_by}
-
--- a turn of the loop, and its end
-pub walk_turn : (q : Reading) (r : ℕ) (s : List ℕ) (i : ℕ) → i < length s
-    → walk_from q r (drop i s) ≡ walk_from q (byte_step q r (get_or s i 0)) (drop (i + 1) s)
-unfolding walk_from
-walk_turn q r s i h = rw (add-one, drop-cons s i 0 h) refl
-
-pub walk_end : (q : Reading) (r : ℕ) (s : List ℕ) (i : ℕ) → length s ≤ i → walk_from q r (drop i s) ≡ r
-unfolding walk_from
-walk_end q r s i h = rw (drop_of_length-le s h) refl
 
 -- the walk over two pieces, one after the other
 pub walk-append : (q : Reading) (r : ℕ) (a b : List ℕ) → walk_from q r (a ++ b) ≡ walk_from q (walk_from q r a) b
 unfolding walk_from
 walk-append q r [] b = refl
 walk-append q r (c ∷ a) b = walk-append q (byte_step q r c) a b
+
+-- over nothing, and over one byte more
+pub walk-none : (q : Reading) (r : ℕ) → walk_from q r [] ≡ r
+unfolding walk_from
+walk-none q r = refl
+
+pub walk-more : (q : Reading) (r : ℕ) (s : List ℕ) (c : ℕ) → walk_from q r (s ++ (c ∷ [])) ≡ byte_step q (walk_from q r s) c
+unfolding walk_from
+walk-more q r s c = walk-append q r s (c ∷ [])
+
+-- over the first bytes and over those behind them
+pub walk-cut : (q : Reading) (r n : ℕ) (s : List ℕ) → walk_from q r s ≡ walk_from q (walk_from q r (take n s)) (drop n s)
+walk-cut q r n s = ap (walk_from q r) (sym (take-append-drop n s)) ∙ walk-append q r (take n s) (drop n s)
 
 -- the CRC of a ++ b is the walk over b from the CRC of a
 pub crc-append : (q : Reading) (a b : List ℕ) → crc_by q (a ++ b) ≡ walk_from q (crc_by q a) b

@@ -1,7 +1,7 @@
 -- Only contracts of private functions cite this.
 -- Ten rows of remainders, by which the walk takes eight bytes at a time (change requests 2026-03, 2026-06).
 -- Assumes nothing.
-use Rattle.std.specs.Prelude.{◌≡◌, List, ℕ, zero, suc, ◌*◌, ◌/◌, ◌%◌, ◌<◌, get_or}
+use Rattle.std.specs.Prelude.{◌≡◌, List, [], ℕ, zero, suc, ◌*◌, ◌/◌, ◌%◌, ◌<◌, get_or}
 use Rattle.crc.specs.declared.Reading.{Reading}
 use Rattle.crc.specs.declared.Reading.TheVariants.{Bare, Augmented}
 use Rattle.crc.specs.Crc.{reduced, byte_step}
@@ -11,7 +11,7 @@ unfoldable pub times : ℕ → ℕ → ℕ
 times zero r = r
 times (suc k) r = reduced (times k r * 2)
 
--- entry i of ten rows of 256: row j has the bytes times x^(8 j), so row 2 is the table
+-- entry i of ten rows of 256, one behind another: row j has the bytes times x^(8 j), so row 2 is the table
 unfoldable pub rows_at : ℕ → ℕ
 rows_at i = times (8 * (i / 256)) (i % 256)
 
@@ -20,9 +20,9 @@ abbrev pub row_of : Reading → ℕ
 row_of Bare = 0
 row_of Augmented = 2
 
--- the first n entries of t are those of the rows
-abbrev pub Filled : ℕ → List ℕ → Type 0
-Filled n t = (k : ℕ) → k < n → get_or t k 0 ≡ rows_at k
+-- the first n of the rows: row j has the remainders of the bytes times x^(8 j), so row 2 is the table
+abbrev pub AreRows : ℕ → List (List ℕ) → Type 0
+AreRows n rows = (j : ℕ) → j < n → (b : ℕ) → b < 256 → get_or (get_or rows j []) b 0 ≡ times (8 * j) b
 
 -- the steps of eight bytes
 abbrev pub eight_steps : Reading → ℕ → ℕ → ℕ → ℕ → ℕ → ℕ → ℕ → ℕ → ℕ → ℕ

@@ -5,10 +5,12 @@ ghost use Rattle.std.specs.Prelude.{◌≡◌, ◌/◌, ◌<◌};
 ghost use Rattle.std.specs.Int.Bits.{bit_xor};
 ghost use Rattle.crc.specs.Crc.{entry, table, byte_step, walk_from, crc_by};
 
+use rows::Rows;
+
 mod rows;
 
 // How the bytes go in (request 2026-06: the old and the new reading). A session is set to one of them.
-#[derive(Clone, Copy)]
+#[derive(Clone, Copy, PartialEq, Eq, Debug)]
 pub enum Reading {
     // Document 01's: the remainder of the file itself.
     Bare,
@@ -18,7 +20,7 @@ pub enum Reading {
 
 // Source document 003's table: entry i is the remainder of i times x^16 by x^16 + x^12 + x^5 + 1. The program `run_crc` prints it in that
 // document's layout.
-const TABLE: [u16; 256] = [
+static TABLE: [u16; 256] = [
     0x0000, 0x1021, 0x2042, 0x3063, 0x4084, 0x50a5, 0x60c6, 0x70e7, 0x8108, 0x9129, 0xa14a, 0xb16b,
     0xc18c, 0xd1ad, 0xe1ce, 0xf1ef, 0x1231, 0x0210, 0x3273, 0x2252, 0x52b5, 0x4294, 0x72f7, 0x62d6,
     0x9339, 0x8318, 0xb37b, 0xa35a, 0xd3bd, 0xc39c, 0xf3ff, 0xe3de, 0x2462, 0x3443, 0x0420, 0x1401,
@@ -44,51 +46,46 @@ const TABLE: [u16; 256] = [
 ];
 
 // The table, with its rule over all entries.
-fn remainders() -> [u16; 256]
-    ensures { result ≡ table }
+fn remainders() -> &'static [u16; 256]
+    ensures { result.now ≡ table }
 {
-    TABLE
+    &TABLE
 }
 
 // Entry i of the table.
+#[tactic(auto, using(crate::proofs::Table::table_at))]
 pub fn entry(i: u8) -> u16
     ensures { result ≡ entry i }
 {
-    let t = remainders();
-    let k = i as usize;
-    t[k]
+    remainders()[usize::from(i)]
 }
 
-// By the new reading the byte c goes into the index: the high byte of r xor c.
-fn index_of(r: u16, c: u8) -> u16
-    ensures { (result ≡ bit_xor (r / 256) c) × (result < 256) }
-{
-    (r / 256) ^ (c as u16)
-}
-
-// One byte, by the table that the caller holds: a constant indexed here would be copied at every byte.
-fn step(t: &[u16; 256], reading: Reading, r: u16, c: u8) -> u16
-    requires { t.now ≡ table }
+// One byte: by the old reading it is added to what the table gives, by the new one it goes into the index.
+#[tactic(auto, unfolding(crate::specs::Crc::byte_step))]
+fn step(reading: Reading, r: u16, c: u8) -> u16
     ensures { result ≡ byte_step reading r c }
 {
+    let high = (r / 256) as u8;
+    let low = r % 256 * 256;
     match reading {
-        Reading::Bare => t[(r / 256) as usize] ^ (r % 256 * 256) ^ (c as u16),
-        Reading::Augmented => t[index_of(r, c) as usize] ^ (r % 256 * 256),
+        Reading::Bare => entry(high) ^ low ^ u16::from(c),
+        Reading::Augmented => entry(high ^ c) ^ low,
     }
 }
 
-// The walk, by the table that the caller holds.
-fn walk_by(t: &[u16; 256], reading: Reading, r: u16, s: &[u8]) -> u16
-    requires { t.now ≡ table }
+// The walk byte by byte.
+fn walk_by_ones(reading: Reading, r: u16, s: &[u8]) -> u16
     ensures { result ≡ walk_from reading r s.now }
 {
-    let mut crc = r;
-    let mut i = 0;
-    while i < s.len() {
-        crc = step(t, reading, crc, s[i]);
-        i += 1;
-    }
-    crc
+    s.iter().fold(r, |crc, c| step(reading, crc, *c))
+}
+
+// The walk by eight bytes at a time. Not inlined, since a function clears its locals as it begins: a short walk is not to wait for the rows.
+#[inline(never)]
+fn walk_by_eights(reading: Reading, r: u16, s: &[u8]) -> u16
+    ensures { result ≡ walk_from reading r s.now }
+{
+    Rows::new().walk(reading, r, s)
 }
 
 // From this length on the walk by eight bytes at a time, whose rows are made first, is faster.
@@ -99,10 +96,10 @@ pub fn walk(reading: Reading, r: u16, s: &[u8]) -> u16
     ensures { result ≡ walk_from reading r s.now }
 {
     if s.len() < LONG {
-        let t = remainders();
-        return walk_by(&t, reading, r, s);
+        walk_by_ones(reading, r, s)
+    } else {
+        walk_by_eights(reading, r, s)
     }
-    rows::walk(reading, r, s)
 }
 
 // The CRC of s by a reading.

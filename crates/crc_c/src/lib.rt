@@ -1,4 +1,4 @@
-// The CRC of `crc` for C and Rust to call, a function for each reading.
+// The CRC of `crc` for C and Rust to call, a function for each reading, since C is not passed the enum.
 #![tactic(auto)]
 
 ghost use Rattle.std.specs.Prelude.{◌≡◌};

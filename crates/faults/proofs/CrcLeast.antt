@@ -1,4 +1,6 @@
 -- A CRC that the table reads: the fault is the one that is found by looking, else the reading goes on behind the closing byte. Assumes nothing.
+use Rattle.fields.specs.declared.Fault.{Fault}
+use Rattle.std.specs.Prelude.{Err, Some, None, Ok, Option}
 use mathlib.Core.Path.{◌≡◌, refl, sym, ap, subst, ◌∙◌}
 use mathlib.Core.Bool.{Bool, true, false, not, not-not}
 use mathlib.Core.List.{List, [], ◌∷◌, ◌++◌}
@@ -9,27 +11,39 @@ use native.Mathlib.Omega.{arith}
 use lib.Dec.{leb, ltb}
 use lib.ListN.{length, take, drop, get_or, take-append-drop}
 use lib.Seq.{length-take-le, take-suc}
-use borrow.Author.Tests.{le-leb, lt-ltb, le-ltb, eq-eqb, ne_eqb, leb-true}
+use borrow.Author.Tests.{le-leb, lt-leb, lt-ltb, le-ltb, eq-eqb, ne_eqb, leb-true}
 use Rattle.fields.specs.Pick.{pick}
 use Rattle.fields.specs.Lists.{all}
 use Rattle.fields.specs.declared.Flaw.TheVariants.{Other}
 use Rattle.fields.proofs.Lists.{never, both, le-or-lt, eq-or-not, drop-one}
-use Rattle.numbers.specs.declared.Number.TheVariants.{Value}
 use Rattle.numbers.specs.declared.Base.TheVariants.{Decimal}
 use Rattle.numbers.specs.Reading.{radix, is_digit, value_from, read_crc}
 use Rattle.numbers.proofs.Reading.{value_none, value-one, value_grows, decimal-is, decimal-below, read_decimal-is, read_crc-is, decimal-form, crc-form}
-use Rattle.faults.specs.declared.Check.{Check}
-use Rattle.faults.specs.declared.Check.TheVariants.{Sound}
 use Rattle.faults.specs.declared.Stage.{Stage}
-use Rattle.faults.specs.declared.Move.TheVariants.{To}
-use Rattle.faults.specs.declared.Ending.TheVariants.{Missing}
 use Rattle.faults.specs.Faults.{crc_with, crc_part, in_crc, only, step_of, end_of, fault, check_from}
 use Rattle.faults.specs.Search.{when, earlier, earliest, digits, past_digits, begins, is_value, crc_faults}
 use Rattle.faults.proofs.Turns.{turn-to, turn-wrong, turn_end}
-use Rattle.faults.proofs.Crc.{crc-sixth, crc-over, crc-more}
 use Rattle.faults.proofs.SoundParts.{too_high}
 use Rattle.faults.proofs.Values.{value-digits, Valued, valued}
 use Rattle.faults.proofs.Earliest.{From, from-pick, from-check, earlier-none, leads, one, Stops, front-le, front-all, front_at, front-stops}
+
+-- ---- One more digit
+
+digit_low : (c : ℕ) → is_digit c ≡ true → 48 ≤ c
+digit_low c d = leb-true 48 c (both (leb 48 c) (leb c 57) d).0
+
+module _ (k v c : ℕ) (d : is_digit c ≡ true) where
+  crc-sixth : 5 ≤ k → crc_part k v c ≡ Err Other
+  unfolding crc_part
+  crc-sixth h = rw (d, le-leb 5 k h)
+
+  crc-over : k < 5 → 65535 < crc_with k v c → crc_part k v c ≡ Err Other
+  unfolding crc_part
+  crc-over h g = rw (d, lt-leb 5 k h, lt-leb (crc_with k v c) 65535 g)
+
+  crc-more : k < 5 → crc_with k v c ≤ 65535 → crc_part k v c ≡ Ok (Some (k + 1, crc_with k v c))
+  unfolding crc_part
+  crc-more h g = rw (d, lt-leb 5 k h, le-leb (crc_with k v c) 65535 g)
 
 -- ---- What digits make
 
@@ -37,14 +51,13 @@ made : ℕ → List ℕ → ℕ
 made v [] = v
 made v (c ∷ s) = made (v * 10 + (c - 48)) s
 
-made-value : (s : List ℕ) (v : ℕ) → all is_digit s ≡ true → value_from Decimal v s ≡ Value (made v s)
+made-value : (s : List ℕ) (v : ℕ) → all is_digit s ≡ true → value_from Decimal v s ≡ Some (made v s)
 unfolding made all radix
 made-value [] v a = value_none Decimal v
 made-value (c ∷ s) v a =
     let b = both (is_digit c) (all is_digit s) a in
-    let d = both (leb 48 c) (leb c 57) b.0 in
-    let h = leb-true c 57 d.1 in
-    let e = decimal-is c (leb-true 48 c d.0) h in
+    let h = leb-true c 57 (both (leb 48 c) (leb c 57) b.0).1 in
+    let e = decimal-is c (digit_low c b.0) h in
     value-one Decimal v c s (omega (arith, e, h)) ∙ (rw e (made-value s (v * 10 + (c - 48)) b.1))
 
 made-last : (s : List ℕ) (v c : ℕ) → made v (s ++ (c ∷ [])) ≡ made v s * 10 + (c - 48)
@@ -53,7 +66,7 @@ made-last [] v c = refl
 made-last (d ∷ s) v c = made-last s (v * 10 + (d - 48)) c
 
 -- up to four digits at the front of s are a CRC
-few-value : (s : List ℕ) (n : ℕ) → 1 ≤ n → n ≤ 4 → n ≤ digits s → read_crc (take n s) ≡ Value (made 0 (take n s))
+few-value : (s : List ℕ) (n : ℕ) → 1 ≤ n → n ≤ 4 → n ≤ digits s → read_crc (take n s) ≡ Some (made 0 (take n s))
 few-value s n lo hi h =
     let m = take n s in
     let l = length-take-le n s (omega (arith, h, front-le is_digit s)) in
@@ -87,11 +100,11 @@ crc-with k v c h = ⊎_elim (λ (e : k ≡ 0). rw (eq-eqb k 0 e, h e) refl) (λ 
 
 module _ (part : ℕ → ℕ → Stage) (z : ℕ) (next : Stage)
     (step : (k v c : ℕ) → step_of (part k v) c ≡ in_crc (crc_part k v c) part (only z c next Other))
-    (end : (k v : ℕ) → end_of (part k v) ≡ Missing Other) where
+    (end : (k v : ℕ) → end_of (part k v) ≡ Some Other) where
   module _ (k v c : ℕ) where
     -- one more digit, where no digit read makes 0
-    crc-on : (k ≡ 0 → v ≡ 0) → is_digit c ≡ true → k < 5 → v * 10 + (c - 48) ≤ 65535 → step_of (part k v) c ≡ To (part (k + 1) (v * 10 + (c - 48)))
-    crc-on n d h g = let e = crc-with k v c n in step k v c ∙ rw (← crc-more k v c d h (rw e g), e) refl
+    crc-on : (k ≡ 0 → v ≡ 0) → is_digit c ≡ true → k < 5 → v * 10 + (c - 48) ≤ 65535 → step_of (part k v) c ≡ Ok (part (k + 1) (v * 10 + (c - 48)))
+    crc-on n d h g = let e = crc-with k v c n in step k v c ∙ rw (crc-more k v c d h (rw e g), e) refl
 
     crc-behind : is_digit c ≡ false → 1 ≤ k → step_of (part k v) c ≡ only z c next Other
     unfolding crc_part
@@ -111,7 +124,7 @@ module _ (part : ℕ → ℕ → Stage) (z : ℕ) (next : Stage)
       ∙ (rw (e, f) at (run-crc n s (k + 1) w (i + 1) (omega arith) b.1 (omega arith) g))
 
   -- over a CRC
-  read-crc : (n s : List ℕ) (i w : ℕ) → read_crc n ≡ Value w → check_from (part 0 0) i (n ++ s) ≡ check_from (part (length n) w) (i + length n) s
+  read-crc : (n s : List ℕ) (i w : ℕ) → read_crc n ≡ Some w → check_from (part 0 0) i (n ++ s) ≡ check_from (part (length n) w) (i + length n) s
   read-crc n s i w e =
       let c = crc-form w n e in
       let f = decimal-form 5 w n c.1 in
@@ -123,15 +136,15 @@ module _ (part : ℕ → ℕ → Stage) (z : ℕ) (next : Stage)
       rw (z, v) at (run-crc n s 0 0 i (λ x. refl) a (omega arith) (omega arith))
 
   -- and the byte that closes it
-  pub crc-read : is_digit z ≡ false → (n s : List ℕ) (i w : ℕ) → read_crc n ≡ Value w
+  pub crc-read : is_digit z ≡ false → (n s : List ℕ) (i w : ℕ) → read_crc n ≡ Some w
       → check_from (part 0 0) i (n ++ (z ∷ s)) ≡ check_from next (i + length n + 1) s
   crc-read o n s i w e =
       let f = decimal-form 5 w n (crc-form w n e).1 in
       read-crc n (z ∷ s) i w e ∙ turn-to (part (length n) w) next (i + length n) z s (crc-behind (length n) w z o f.0 ∙ rw (eq-eqb z z refl) refl)
 
   -- behind the digits and the closing byte
-  abbrev pub behind : ℕ → List ℕ → Check
-  behind i s = pick (begins z (past_digits s)) (check_from next (i + digits s + 1) (drop 1 (past_digits s))) Sound
+  abbrev pub behind : ℕ → List ℕ → Option Fault
+  behind i s = pick (begins z (past_digits s)) (check_from next (i + digits s + 1) (drop 1 (past_digits s))) None
 
   module _ (i : ℕ) (s : List ℕ) where
     abbrev Told : Type 0
@@ -141,9 +154,9 @@ module _ (part : ℕ → ℕ → Stage) (z : ℕ) (next : Stage)
     from-behind o h =
         let j = i + digits s + 1 in
         let t = drop 1 (past_digits s) in
-        from-pick o (begins z (past_digits s)) (check_from next j t) Sound (from-check next o j t (omega (arith, h))) tt
+        from-pick o (begins z (past_digits s)) (check_from next j t) None (from-check next o j t (omega (arith, h))) tt
 
-    over-crc : (n w : ℕ) → n ≤ digits s → read_crc (take n s) ≡ Value w → check_from (part 0 0) i s ≡ check_from (part n w) (i + n) (drop n s)
+    over-crc : (n w : ℕ) → n ≤ digits s → read_crc (take n s) ≡ Some w → check_from (part 0 0) i s ≡ check_from (part n w) (i + n) (drop n s)
     over-crc n w h v =
         let e = length-take-le n s (omega (arith, h, front-le is_digit s)) in
         ap (check_from (part 0 0) i) (sym (take-append-drop n s)) ∙ (rw e at (read-crc (take n s) (drop n s) i w v))
@@ -176,7 +189,7 @@ module _ (part : ℕ → ℕ → Stage) (z : ℕ) (next : Stage)
         (over-crc 4 v (omega arith) (few-value s 4 (omega arith) (omega arith) (omega arith))
         ∙ ap (check_from (part 4 v) (i + 4)) (drop-one s 4 (omega (arith, h, l)))
         ∙ turn-wrong (part 4 v) Other (i + 4) c (drop 5 s)
-        (step 4 v c ∙ rw (← crc-over 4 v c (front_at is_digit s 4 (omega arith)) (omega arith) (rw e at m)) refl)
+        (step 4 v c ∙ rw (crc-over 4 v c (front_at is_digit s 4 (omega arith)) (omega arith) (rw e at m)) refl)
         ∙ sym (leads (i + 4) (behind i s) (from-behind (i + 4) (omega arith)) false (ltb 5 (digits s)) (not (begins z (past_digits s)))
         (i + 4) (i + 5) (i + digits s) (omega arith) (omega arith) (omega arith)))
 
@@ -189,7 +202,7 @@ module _ (part : ℕ → ℕ → Stage) (z : ℕ) (next : Stage)
         let v = r.value in
         rw (ne_eqb (digits s) 0 (omega arith), b, lt-ltb 5 (digits s) h)
         (over-crc 5 v (omega arith) r.is ∙ ap (check_from (part 5 v) (i + 5)) (drop-one s 5 (omega (arith, h, front-le is_digit s)))
-        ∙ turn-wrong (part 5 v) Other (i + 5) c (drop 6 s) (step 5 v c ∙ rw (← crc-sixth 5 v c (front_at is_digit s 5 h) (omega arith)) refl)
+        ∙ turn-wrong (part 5 v) Other (i + 5) c (drop 6 s) (step 5 v c ∙ rw (crc-sixth 5 v c (front_at is_digit s 5 h) (omega arith)) refl)
         ∙ sym (leads (i + 5) (behind i s) (from-behind (i + 5) (omega arith)) false false (not (begins z (past_digits s)))
         (i + 5) (i + 5) (i + digits s) (omega arith) (omega arith) (omega arith)))
 

@@ -1,4 +1,6 @@
 -- Of several faults the earliest, and the front of a list. Assumes nothing.
+use Rattle.fields.specs.declared.Fault.{Fault}
+use Rattle.std.specs.Prelude.{Err, None, Ok, Option, Some}
 use mathlib.Core.Path.{◌≡◌, refl, sym, ap, ◌∙◌}
 use mathlib.Core.Bool.{Bool, true, false, not}
 use mathlib.Core.List.{List, [], ◌∷◌}
@@ -14,11 +16,7 @@ use Rattle.fields.specs.Lists.{all}
 use Rattle.fields.specs.declared.Flaw.{Flaw}
 use Rattle.fields.specs.declared.Flaw.TheVariants.{Other}
 use Rattle.fields.proofs.Lists.{either, drop-one}
-use Rattle.faults.specs.declared.Check.{Check}
-use Rattle.faults.specs.declared.Check.TheVariants.{Sound, Faulty}
 use Rattle.faults.specs.declared.Stage.{Stage}
-use Rattle.faults.specs.declared.Move.TheVariants.{To, Offends}
-use Rattle.faults.specs.declared.Ending.TheVariants.{Missing}
 use Rattle.faults.specs.Faults.{only, step_of, end_of, fault, check_from}
 use Rattle.faults.specs.Search.{when, earlier, front, begins}
 use Rattle.faults.proofs.Place.{place}
@@ -26,56 +24,56 @@ use Rattle.faults.proofs.Turns.{run, turn-to, turn-wrong, turn_end}
 
 -- ---- No fault before the place p
 
-abbrev pub From : ℕ → Check → Type 0
-From p Sound = Unit {0}
-From p (Faulty f) = p ≤ f.offset
+abbrev pub From : ℕ → Option Fault → Type 0
+From p None = Unit {0}
+From p (Some f) = p ≤ f.offset
 
-pub from-later : (p q : ℕ) (x : Check) → p ≤ q → From q x → From p x
-from-later p q Sound h a = tt
-from-later p q (Faulty f) h a = omega (arith, a)
+pub from-later : (p q : ℕ) (x : Option Fault) → p ≤ q → From q x → From p x
+from-later p q None h a = tt
+from-later p q (Some f) h a = omega (arith, a)
 
-pub from-pick : (p : ℕ) (b : Bool) (x y : Check) → From p x → From p y → From p (pick b x y)
+pub from-pick : (p : ℕ) (b : Bool) (x y : Option Fault) → From p x → From p y → From p (pick b x y)
 from-pick p true x y a c = a
 from-pick p false x y a c = c
 
 pub from-when : (p : ℕ) (b : Bool) (w : Flaw) (o : ℕ) → p ≤ o → From p (when b w o)
-from-when p b w o h = from-pick p b (fault w o) Sound h tt
+from-when p b w o h = from-pick p b (fault w o) None h tt
 
-pub from-earlier : (p : ℕ) (x y : Check) → From p x → From p y → From p (earlier x y)
-from-earlier p Sound y a b = b
-from-earlier p (Faulty f) Sound a b = a
-from-earlier p (Faulty f) (Faulty g) a b = from-pick p (leb f.offset g.offset) (Faulty f) (Faulty g) a b
+pub from-earlier : (p : ℕ) (x y : Option Fault) → From p x → From p y → From p (earlier x y)
+from-earlier p None y a b = b
+from-earlier p (Some f) None a b = a
+from-earlier p (Some f) (Some g) a b = from-pick p (leb f.offset g.offset) (Some f) (Some g) a b
 
 -- what the table finds lies in the bytes that it reads
 pub from-check : (q : Stage) (o i : ℕ) (s : List ℕ) → o ≤ i → From o (check_from q i s)
 from-check q o i s l = go (check_from q i s) refl
   where
-    go : (x : Check) → check_from q i s ≡ x → From o x
-    go Sound e = tt
-    go (Faulty f) e = let h = (place q i s f e).is in omega arith
+    go : (x : Option Fault) → check_from q i s ≡ x → From o x
+    go None e = tt
+    go (Some f) e = let h = (place q i s f e).is in omega arith
 
 -- ---- The earlier of two
 
-pub earlier-none : (x : Check) → earlier x Sound ≡ x
-earlier-none Sound = refl
-earlier-none (Faulty f) = refl
+pub earlier-none : (x : Option Fault) → earlier x None ≡ x
+earlier-none None = refl
+earlier-none (Some f) = refl
 
 -- the first counts where the second is no earlier, and the second where the first is later
-pub earlier-first : (w : Flaw) (o : ℕ) (x : Check) → From o x → earlier (fault w o) x ≡ fault w o
-earlier-first w o Sound a = refl
-earlier-first w o (Faulty g) a = rw (le-leb o g.offset a)
+pub earlier-first : (w : Flaw) (o : ℕ) (x : Option Fault) → From o x → earlier (fault w o) x ≡ fault w o
+earlier-first w o None a = refl
+earlier-first w o (Some g) a = rw (le-leb o g.offset a)
 
-pub earlier-second : (w : Flaw) (o : ℕ) (x : Check) → From (suc o) x → earlier x (fault w o) ≡ fault w o
-earlier-second w o Sound a = refl
-earlier-second w o (Faulty g) a = rw (lt-leb g.offset o a)
+pub earlier-second : (w : Flaw) (o : ℕ) (x : Option Fault) → From (suc o) x → earlier x (fault w o) ≡ fault w o
+earlier-second w o None a = refl
+earlier-second w o (Some g) a = rw (lt-leb g.offset o a)
 
 -- of three
-pub earlier-leads : (w : Flaw) (o : ℕ) (x y : Check) → From o x → From o y → earlier (earlier (fault w o) x) y ≡ fault w o
-earlier-leads w o x y a b = ap (λ (z : Check). earlier z y) (earlier-first w o x a) ∙ earlier-first w o y b
+pub earlier-leads : (w : Flaw) (o : ℕ) (x y : Option Fault) → From o x → From o y → earlier (earlier (fault w o) x) y ≡ fault w o
+earlier-leads w o x y a b = ap (λ (z : Option Fault). earlier z y) (earlier-first w o x a) ∙ earlier-first w o y b
 
 -- a fault that is no later than three others and what stands behind them
-pub leads : (o : ℕ) (y : Check) → From o y → (a b c : Bool) (p q r : ℕ) → o ≤ p → o ≤ q → o ≤ r
-    → earlier (earlier (fault Other o) (earlier (when a Other p) (earlier (when b Other q) (earlier (when c Other r) Sound)))) y ≡ fault Other o
+pub leads : (o : ℕ) (y : Option Fault) → From o y → (a b c : Bool) (p q r : ℕ) → o ≤ p → o ≤ q → o ≤ r
+    → earlier (earlier (fault Other o) (earlier (when a Other p) (earlier (when b Other q) (earlier (when c Other r) None)))) y ≡ fault Other o
 leads o y f a b c p q r h g k =
     let x = when a Other p in
     let z = when b Other q in
@@ -86,13 +84,13 @@ leads o y f a b c p q r h g k =
 
 -- ---- One byte x, and q behind it; at another byte, and at the end, the fault w
 
-pub one : (p q : Stage) (x : ℕ) (w : Flaw) (i : ℕ) (s : List ℕ) → ((c : ℕ) (t : List ℕ) → s ≡ c ∷ t → step_of p c ≡ only x c q w) → end_of p ≡ Missing w
-    → check_from p i s ≡ earlier (when (not (begins x s)) w i) (pick (begins x s) (check_from q (i + 1) (drop 1 s)) Sound)
+pub one : (p q : Stage) (x : ℕ) (w : Flaw) (i : ℕ) (s : List ℕ) → ((c : ℕ) (t : List ℕ) → s ≡ c ∷ t → step_of p c ≡ only x c q w) → end_of p ≡ Some w
+    → check_from p i s ≡ earlier (when (not (begins x s)) w i) (pick (begins x s) (check_from q (i + 1) (drop 1 s)) None)
 unfolding begins
 one p q x w i [] step end = turn_end p w i end
 one p q x w i (c ∷ s) step end = go (eqb c x) refl
   where
-    go : (b : Bool) → eqb c x ≡ b → check_from p i (c ∷ s) ≡ earlier (when (not b) w i) (pick b (check_from q (i + 1) s) Sound)
+    go : (b : Bool) → eqb c x ≡ b → check_from p i (c ∷ s) ≡ earlier (when (not b) w i) (pick b (check_from q (i + 1) s) None)
     go true e = turn-to p q i c s (step c s refl ∙ rw e refl)
     go false e = turn-wrong p w i c s (step c s refl ∙ rw e refl)
 
@@ -142,7 +140,7 @@ front-stops f (c ∷ s) = either (λ (l : List ℕ). Stops f (drop (length l) (c
 
 -- ---- A part that counts its bytes, at most so many
 
-module _ (part : ℕ → Stage) (f : ℕ → Bool) (most : ℕ) (more : (k c : ℕ) → f c ≡ true → k < most → step_of (part k) c ≡ To (part (k + 1)))
+module _ (part : ℕ → Stage) (f : ℕ → Bool) (most : ℕ) (more : (k c : ℕ) → f c ≡ true → k < most → step_of (part k) c ≡ Ok (part (k + 1)))
     (s : List ℕ) (i : ℕ) where
   -- n of them
   pub over : (n : ℕ) → n ≤ length (front f s) → n ≤ most → check_from (part 0) i s ≡ check_from (part n) (i + n) (drop n s)
@@ -154,7 +152,7 @@ module _ (part : ℕ → Stage) (f : ℕ → Bool) (most : ℕ) (more : (k c : �
       ∙ ap (λ (x : ℕ). check_from (part x) (i + n) (drop n s)) (omega arith)
 
   -- one too many
-  pub over-most : (w : Flaw) → ((c : ℕ) → f c ≡ true → step_of (part most) c ≡ Offends w) → most < length (front f s)
+  pub over-most : (w : Flaw) → ((c : ℕ) → f c ≡ true → step_of (part most) c ≡ Err w) → most < length (front f s)
       → check_from (part 0) i s ≡ fault w (i + most)
   over-most w many h =
       over most (omega arith) (omega arith) ∙ ap (check_from (part most) (i + most)) (drop-one s most (omega (arith, h, front-le f s)))

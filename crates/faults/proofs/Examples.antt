@@ -1,15 +1,15 @@
 -- Examples of the table, computed: what change request 2026-02 gives for each, worked out from its words. Assumes nothing.
+use Rattle.fields.specs.declared.Fault.{Fault}
+use Rattle.std.specs.Prelude.{None, Option}
 use mathlib.Core.Path.{◌≡◌, refl}
 use mathlib.Core.List.{List, [], ◌∷◌}
 use Rattle.fields.specs.Name.{is_name_byte}
 use Rattle.fields.specs.declared.Flaw.TheVariants.{NameOpen, NameLength, NameByte, NoDigits, ManyDigits, SizeOpen, Other}
 use Rattle.numbers.specs.Reading.{hex_digit}
-use Rattle.faults.specs.declared.Check.{Check}
-use Rattle.faults.specs.declared.Check.TheVariants.{Sound}
 use Rattle.faults.specs.Faults.{name_part, size_part, crc_part, step_of, end_of, fault, check_from, check_header, check_line, check_ok}
 
 -- the data of headers
-abbrev headers : List Check
+abbrev headers : List (Option Fault)
 headers =
     -- nothing
     check_header ([])
@@ -45,12 +45,12 @@ headers =
 
 headers-agree : headers
     ≡ fault NameOpen 0 ∷ fault NameLength 0 ∷ fault NameOpen 8 ∷ fault NoDigits 9 ∷ fault SizeOpen 12 ∷ fault SizeOpen 11 ∷ fault NameByte 3
-    ∷ fault NameLength 64 ∷ fault NameLength 64 ∷ fault ManyDigits 10 ∷ fault SizeOpen 10 ∷ fault NoDigits 2 ∷ Sound ∷ []
+    ∷ fault NameLength 64 ∷ fault NameLength 64 ∷ fault ManyDigits 10 ∷ fault SizeOpen 10 ∷ fault NoDigits 2 ∷ None ∷ []
 unfolding check_header check_line check_ok check_from step_of end_of name_part size_part crc_part is_name_byte hex_digit
 headers-agree = refl
 
 -- frames that start `#BIN#`
-abbrev lines : List Check
+abbrev lines : List (Option Fault)
 lines =
     -- #BIN#
     check_line (35 ∷ 66 ∷ 73 ∷ 78 ∷ 35 ∷ [])
@@ -91,12 +91,12 @@ lines =
 lines-agree : lines
     ≡ fault NoDigits 5 ∷ fault SizeOpen 6 ∷ fault Other 7 ∷ fault SizeOpen 8 ∷ fault Other 13 ∷ fault Other 13 ∷ fault Other 14
     ∷ fault Other 19 ∷ fault Other 20 ∷ fault Other 21 ∷ fault NameLength 22 ∷ fault NameOpen 22 ∷ fault NameByte 23 ∷ fault Other 24
-    ∷ Sound ∷ Sound ∷ []
+    ∷ None ∷ None ∷ []
 unfolding check_header check_line check_ok check_from step_of end_of name_part size_part crc_part is_name_byte hex_digit
 lines-agree = refl
 
 -- frames that start `#OK#`
-abbrev oks : List Check
+abbrev oks : List (Option Fault)
 oks =
     -- #OK#
     check_ok (35 ∷ 79 ∷ 75 ∷ 35 ∷ [])
@@ -118,6 +118,6 @@ oks =
     ∷ check_ok (35 ∷ 79 ∷ 75 ∷ 35 ∷ 97 ∷ 98 ∷ 99 ∷ 46 ∷ 116 ∷ 120 ∷ 116 ∷ 35 ∷ 36 ∷ 50 ∷ 35 ∷ 49 ∷ 54 ∷ 55 ∷ 48 ∷ 54 ∷ 13 ∷ [])
     ∷ []
 
-oks-agree : oks ≡ fault Other 4 ∷ fault Other 4 ∷ fault Other 4 ∷ fault Other 6 ∷ fault Other 15 ∷ fault Other 13 ∷ fault Other 5 ∷ Sound ∷ Sound ∷ []
+oks-agree : oks ≡ fault Other 4 ∷ fault Other 4 ∷ fault Other 4 ∷ fault Other 6 ∷ fault Other 15 ∷ fault Other 13 ∷ fault Other 5 ∷ None ∷ None ∷ []
 unfolding check_header check_line check_ok check_from step_of end_of name_part size_part crc_part is_name_byte hex_digit
 oks-agree = refl

@@ -1,4 +1,6 @@
 -- Names, sizes, stamps and CRCs of lines and OKs: what is read leads from part to part, and what leads there is read. Assumes nothing.
+use Rattle.fields.specs.declared.Flaw.{Flaw}
+use Rattle.std.specs.Prelude.{Err, Some, None, Ok, Result}
 use mathlib.Core.Path.{◌≡◌, refl, sym, ap, ◌∙◌}
 use mathlib.Core.Bool.{Bool, true, false, not, not-not}
 use mathlib.Core.List.{List, [], ◌∷◌, ◌++◌}
@@ -12,17 +14,11 @@ use Rattle.fields.specs.Pick.{pick}
 use Rattle.fields.specs.Name.{is_name_byte, is_name}
 use Rattle.fields.specs.declared.Flaw.TheVariants.{NameOpen, NameLength, NoDigits, ManyDigits, SizeOpen, Other}
 use Rattle.fields.proofs.Lists.{never, both, either, name-length}
-use Rattle.numbers.specs.declared.Number.TheVariants.{Value}
 use Rattle.numbers.specs.declared.Base.TheVariants.{Decimal, Hex}
 use Rattle.numbers.specs.Reading.{is_digit, hex_digit, read_size, read_crc, read_hex}
 use Rattle.numbers.proofs.Reading.{decimal-form, hex-form}
-use Rattle.faults.specs.declared.Check.TheVariants.{Sound}
 use Rattle.faults.specs.declared.Stage.{Stage}
 use Rattle.faults.specs.declared.Stage.TheVariants.{LineSize, LineBar, LineStamp, LineMark, LineName, OkName, OkDollar, OkKept, OkCrc, End}
-use Rattle.faults.specs.declared.Part.TheVariants.{More, Behind, Wrong}
-use Rattle.faults.specs.declared.Move.{Move}
-use Rattle.faults.specs.declared.Move.TheVariants.{To}
-use Rattle.faults.specs.declared.Ending.TheVariants.{Missing}
 use Rattle.faults.specs.Faults.{name_part, size_part, crc_part, is_hex, in_crc, only, line_closing, in_ok, step_of, end_of, check_from, is_sound}
 use Rattle.faults.specs.Search.{digits, past_digits, begins, crc_faults}
 use Rattle.faults.proofs.Moves.{of-name, of_size, of-only}
@@ -40,20 +36,20 @@ other_byte f z c n h = ne_eqb c z (λ e. never (sym n ∙ ap f (sym e) ∙ h))
 
 -- ---- Names
 
-name-more : (z k c : ℕ) → is_name_byte z ≡ false → is_name_byte c ≡ true → k < 64 → name_part z k c ≡ More (k + 1)
+name-more : (z k c : ℕ) → is_name_byte z ≡ false → is_name_byte c ≡ true → k < 64 → name_part z k c ≡ Ok (Some (k + 1))
 unfolding name_part
 name-more z k c n h l = rw (other_byte is_name_byte z c n h, lt-leb 64 k l, h)
 
-name-many : (z c : ℕ) → is_name_byte z ≡ false → is_name_byte c ≡ true → name_part z 64 c ≡ Wrong NameLength
+name-many : (z c : ℕ) → is_name_byte z ≡ false → is_name_byte c ≡ true → name_part z 64 c ≡ Err NameLength
 unfolding name_part
 name-many z c n h = rw (other_byte is_name_byte z c n h)
 
-name-behind : (z k : ℕ) → 1 ≤ k → name_part z k z ≡ Behind
+name-behind : (z k : ℕ) → 1 ≤ k → name_part z k z ≡ Ok None
 unfolding name_part
 name-behind z k h = rw (eq-eqb z z refl, ne_eqb k 0 (omega arith))
 
 -- a line's, closed by `\r`
-line-name-more : (k c : ℕ) → is_name_byte c ≡ true → k < 64 → step_of (LineName k) c ≡ To (LineName (k + 1))
+line-name-more : (k c : ℕ) → is_name_byte c ≡ true → k < 64 → step_of (LineName k) c ≡ Ok (LineName (k + 1))
 unfolding step_of is_name_byte
 line-name-more k c h l = rw (name-more 13 k c refl h l)
 
@@ -72,7 +68,7 @@ unfolding step_of end_of
 line-name-out k [] t h = open-end (LineName k) NameOpen refl h
 line-name-out k (c ∷ s) t h =
     after (LineName k) c s
-    (of-name (After (LineNameOut k (c ∷ s)) s) (λ _. tt) k c 13 LineName (To End) (λ b _. never (sym t ∙ b)) (λ e n g. (n, first-is e g)))
+    (of-name (After (LineNameOut k (c ∷ s)) s) (λ _. tt) k c 13 LineName (Ok End) (λ b _. never (sym t ∙ b)) (λ e n g. (n, first-is e g)))
     h
 
 pub line-name-field : (s : List ℕ) → SoundFrom (LineName 0) s → Field is_name_byte 64 LineNameOut s
@@ -83,7 +79,7 @@ line-name-field = field_of LineName is_name_byte 64 line-name-more LineNameOut N
 abbrev pub OkNameOut : ℕ → List ℕ → Type 0
 OkNameOut k s = First 13 End s ⊎ ((1 ≤ k) × First 35 OkDollar s)
 
-ok-name-more : (k c : ℕ) → is_name_byte c ≡ true → k < 64 → step_of (OkName k) c ≡ To (OkName (k + 1))
+ok-name-more : (k c : ℕ) → is_name_byte c ≡ true → k < 64 → step_of (OkName k) c ≡ Ok (OkName (k + 1))
 unfolding step_of is_name_byte
 ok-name-more k c h l = let z = other_byte is_name_byte 13 c refl h in let m = name-more 35 k c refl h l in rw (z, m)
 
@@ -107,10 +103,10 @@ ok-name-out : (k : ℕ) (s : List ℕ) → Stops is_name_byte s → SoundFrom (O
 unfolding step_of end_of
 ok-name-out k [] t h = open-end (OkName k) Other refl h
 ok-name-out k (c ∷ s) t h =
-    let P : Move → Type 0 = After (OkNameOut k (c ∷ s)) s in
+    let P : Result Stage Flaw → Type 0 = After (OkNameOut k (c ∷ s)) s in
     after (OkName k) c s
     (either P (eqb c 13) _ _ (λ e g. inl (first-is (eqb-true c 13 e) g))
-    (λ _. of-name (λ m. P (in_ok m)) (λ _. tt) k c 35 OkName (To OkDollar) (λ b _. never (sym t ∙ b)) (λ e n g. inr (n, first-is e g))))
+    (λ _. of-name (λ m. P (in_ok m)) (λ _. tt) k c 35 OkName (Ok OkDollar) (λ b _. never (sym t ∙ b)) (λ e n g. inr (n, first-is e g))))
     h
 
 pub ok-name-field : (s : List ℕ) → SoundFrom (OkName 0) s → Field is_name_byte 64 OkNameOut s
@@ -125,7 +121,7 @@ ok-name-field =
 abbrev pub SizeOut : ℕ → List ℕ → Type 0
 SizeOut k s = (1 ≤ k) × (First 13 End s ⊎ First 35 LineBar s)
 
-pub line-size-sound : (c : ℕ) (q : Stage) (n s : List ℕ) (v : ℕ) → is_digit c ≡ false → line_closing c ≡ To q → read_size n ≡ Value v
+pub line-size-sound : (c : ℕ) (q : Stage) (n s : List ℕ) (v : ℕ) → is_digit c ≡ false → line_closing c ≡ Ok q → read_size n ≡ Some v
     → SoundFrom q s → SoundFrom (LineSize 0) (n ++ (c ∷ s))
 unfolding step_of
 line-size-sound c q n s v d e r h =
@@ -137,7 +133,7 @@ line-size-out : (k : ℕ) (s : List ℕ) → Stops is_digit s → SoundFrom (Lin
 unfolding step_of end_of
 line-size-out k [] t h = open-end (LineSize k) (pick (eqb k 0) NoDigits SizeOpen) refl h
 line-size-out k (c ∷ s) t h =
-    let P : Move → Type 0 = After (SizeOut k (c ∷ s)) s in
+    let P : Result Stage Flaw → Type 0 = After (SizeOut k (c ∷ s)) s in
     after (LineSize k) c s
     (of_size P (λ _. tt) k c LineSize (line_closing c) (λ b _. never (sym t ∙ b))
     (λ n. either P (eqb c 13) _ _ (λ e g. (n, inl (first-is (eqb-true c 13 e) g)))
@@ -152,7 +148,7 @@ line-size-field = field_of LineSize is_digit 8 (size-more LineSize line_closing 
 abbrev pub KeptOut : ℕ → List ℕ → Type 0
 KeptOut k s = (1 ≤ k) × First 35 (OkCrc 0 0) s
 
-pub kept-sound : (n s : List ℕ) (v : ℕ) → read_size n ≡ Value v → SoundFrom (OkCrc 0 0) s → SoundFrom (OkKept 0) (n ++ (35 ∷ s))
+pub kept-sound : (n s : List ℕ) (v : ℕ) → read_size n ≡ Some v → SoundFrom (OkCrc 0 0) s → SoundFrom (OkKept 0) (n ++ (35 ∷ s))
 unfolding step_of size_part
 kept-sound n s v r h =
     let f = decimal-form 8 v n r in
@@ -163,7 +159,7 @@ kept_out : (k : ℕ) (s : List ℕ) → Stops is_digit s → SoundFrom (OkKept k
 unfolding step_of end_of
 kept_out k [] t h = open-end (OkKept k) Other refl h
 kept_out k (c ∷ s) t h =
-    let P : Move → Type 0 = λ m. After (KeptOut k (c ∷ s)) s (in_ok m) in
+    let P : Result Stage Flaw → Type 0 = λ m. After (KeptOut k (c ∷ s)) s (in_ok m) in
     after (OkKept k) c s
     (of_size P (λ _. tt) k c OkKept (only 35 c (OkCrc 0 0) Other) (λ b _. never (sym t ∙ b))
     (λ n. of-only P 35 c (OkCrc 0 0) Other tt (λ e g. (n, first-is e g))))
@@ -178,7 +174,7 @@ kept_field = field_of OkKept is_digit 8 (λ k x g l. rw (g, lt-leb 8 k l)) KeptO
 abbrev pub StampOut : ℕ → List ℕ → Type 0
 StampOut k s = (8 ≤ k) × (First 63 LineMark s ⊎ First 35 (LineName 0) s)
 
-pub stamp-sound : (r : Bool) (n s : List ℕ) (v : ℕ) → read_hex n ≡ Value v → SoundFrom (LineName 0) s
+pub stamp-sound : (r : Bool) (n s : List ℕ) (v : ℕ) → read_hex n ≡ Some v → SoundFrom (LineName 0) s
     → SoundFrom (LineStamp 0) (n ++ (pick r (63 ∷ []) [] ++ (35 ∷ s)))
 unfolding step_of
 stamp-sound r n s v e h =
@@ -195,7 +191,7 @@ stamp-out : (k : ℕ) (s : List ℕ) → Stops is_hex s → SoundFrom (LineStamp
 unfolding step_of end_of
 stamp-out k [] t h = open-end (LineStamp k) Other refl h
 stamp-out k (c ∷ s) t h =
-    let P : Move → Type 0 = After (StampOut k (c ∷ s)) s in
+    let P : Result Stage Flaw → Type 0 = After (StampOut k (c ∷ s)) s in
     after (LineStamp k) c s
     (either P (leb 8 k) _ _
     (λ l. either P (eqb c 63) _ _ (λ e g. (leb-true 8 k l, inl (first-is (eqb-true c 63 e) g)))
@@ -217,7 +213,7 @@ pub record CrcField (z : ℕ) (q : Stage) (s : List ℕ) : Type 0 where
   pub rest : List ℕ
   pub is : s ≡ bytes ++ rest
   pub value : ℕ
-  pub read : read_crc bytes ≡ Value value
+  pub read : read_crc bytes ≡ Some value
   pub out : First z q rest
 
 begins-is : (x : ℕ) (s : List ℕ) → begins x s ≡ true → s ≡ x ∷ drop 1 s
@@ -227,8 +223,8 @@ begins-is x (c ∷ s) h = ap (λ (y : ℕ). y ∷ s) (eqb-true c x h)
 
 module _ (part : ℕ → ℕ → Stage) (z : ℕ) (q : Stage)
     (step : (k v c : ℕ) → step_of (part k v) c ≡ in_crc (crc_part k v c) part (only z c q Other))
-    (end : (k v : ℕ) → end_of (part k v) ≡ Missing Other) where
-  pub crc-right : is_digit z ≡ false → (n s : List ℕ) (w : ℕ) → read_crc n ≡ Value w → SoundFrom q s → SoundFrom (part 0 0) (n ++ (z ∷ s))
+    (end : (k v : ℕ) → end_of (part k v) ≡ Some Other) where
+  pub crc-right : is_digit z ≡ false → (n s : List ℕ) (w : ℕ) → read_crc n ≡ Some w → SoundFrom q s → SoundFrom (part 0 0) (n ++ (z ∷ s))
   crc-right o n s w e h = crc-read part z q step end o n s 0 w e ∙ moved q s 0 (0 + length n + 1) h
 
   pub crc-field : (s : List ℕ) → SoundFrom (part 0 0) s → CrcField z q s
@@ -237,7 +233,7 @@ module _ (part : ℕ → ℕ → Stage) (z : ℕ) (q : Stage)
       let t = past_digits s in
       let on = check_from q (0 + d + 1) (drop 1 t) in
       let x = crc_faults z 0 s in
-      let y = pick (begins z t) on Sound in
+      let y = pick (begins z t) on None in
       let a = both (is_sound x) (is_sound y) (sym (sound-earlier x y) ∙ ap is_sound (sym (crc-least part z q step end 0 s) ∙ h)) in
       let b = both _ _ (sym (crc-sound z 0 s) ∙ a.0) in
       let c = both (not (too_high s)) _ b.1 in

@@ -1,4 +1,6 @@
 -- The faults of a line, part by part and the last part first: the earliest is the one that the table finds. Assumes nothing.
+use Rattle.fields.specs.declared.Fault.{Fault}
+use Rattle.std.specs.Prelude.{None, Ok, Option}
 use mathlib.Core.Path.{◌≡◌, refl, sym, ap, subst, ◌∙◌}
 use mathlib.Core.Bool.{Bool, true, false, not, ◌&&◌}
 use mathlib.Core.List.{List, [], ◌∷◌}
@@ -15,11 +17,8 @@ use Rattle.fields.specs.Name.{is_name_byte}
 use Rattle.fields.specs.declared.Flaw.TheVariants.{SizeOpen, Other}
 use Rattle.fields.proofs.Lists.{le-or-lt}
 use Rattle.numbers.specs.Reading.{is_digit}
-use Rattle.faults.specs.declared.Check.{Check}
-use Rattle.faults.specs.declared.Check.TheVariants.{Sound}
 use Rattle.faults.specs.declared.Stage.{Stage}
 use Rattle.faults.specs.declared.Stage.TheVariants.{LineSize, LineBar, LineCrc, LineDollar, LineStamp, LineMark, LineName, End}
-use Rattle.faults.specs.declared.Move.TheVariants.{To}
 use Rattle.faults.specs.Faults.{is_hex, line_closing, step_of, end_of, fault, check_from, check_line}
 use Rattle.faults.specs.Search.{when, earlier, earliest, front, digits, past_digits, begins, begins_both, occurs}
 use Rattle.faults.specs.Search.{name_faults, crc_faults, stamp_faults, end_faults}
@@ -31,7 +30,7 @@ use Rattle.faults.proofs.CrcLeast.{crc-least}
 use Rattle.faults.proofs.SizeLeast.{size-behind, size-least}
 
 -- what a part finds lies behind its place, where the table finds it
-from-part : (q : Stage) (part : ℕ → List ℕ → Check) → ((i : ℕ) (s : List ℕ) → check_from q i s ≡ part i s) → (o i : ℕ) (s : List ℕ) → o ≤ i
+from-part : (q : Stage) (part : ℕ → List ℕ → Option Fault) → ((i : ℕ) (s : List ℕ) → check_from q i s ≡ part i s) → (o i : ℕ) (s : List ℕ) → o ≤ i
     → From o (part i s)
 from-part q part is o i s h = subst (From o) (is i s) (from-check q o i s h)
 
@@ -49,11 +48,11 @@ unfolding step_of end_of is_name_byte line_name_faults
 line-name i s =
     let n = length (up_to 13 s) in
     name-least 13 LineName End refl (λ k c. refl) (λ k. refl) i s
-    ∙ ap (λ (x : Check). earlier (name_faults 13 i s) (pick (occurs 13 s) x Sound)) (line-end (i + n + 1) (drop (n + 1) s))
+    ∙ ap (λ (x : Option Fault). earlier (name_faults 13 i s) (pick (occurs 13 s) x None)) (line-end (i + n + 1) (drop (n + 1) s))
 
 -- ---- The stamp
 
-pub stamp-more : (k c : ℕ) → is_hex c ≡ true → k < 8 → step_of (LineStamp k) c ≡ To (LineStamp (k + 1))
+pub stamp-more : (k c : ℕ) → is_hex c ≡ true → k < 8 → step_of (LineStamp k) c ≡ Ok (LineStamp (k + 1))
 unfolding step_of
 stamp-more k c h g = rw (lt-leb 8 k g, h) refl
 
@@ -65,15 +64,15 @@ stamp-short i k (c ∷ s) h t = turn-wrong (LineStamp k) Other i c s (rw (lt-leb
 -- behind eight digits
 stamp-behind : (i : ℕ) (s : List ℕ) → check_from (LineStamp 8) i s
     ≡ earlier
-    (earlier (when (not (begins 63 s) && not (begins 35 s)) Other i) (earlier (when (begins 63 s && not (begins 35 (drop 1 s))) Other (i + 1)) Sound))
-    (pick (begins 35 s) (check_from (LineName 0) (i + 1) (drop 1 s)) (pick (begins_both 63 35 s) (check_from (LineName 0) (i + 1 + 1) (drop 2 s)) Sound))
+    (earlier (when (not (begins 63 s) && not (begins 35 s)) Other i) (earlier (when (begins 63 s && not (begins 35 (drop 1 s))) Other (i + 1)) None))
+    (pick (begins 35 s) (check_from (LineName 0) (i + 1) (drop 1 s)) (pick (begins_both 63 35 s) (check_from (LineName 0) (i + 1 + 1) (drop 2 s)) None))
 unfolding step_of end_of begins
 stamp-behind i [] = turn_end (LineStamp 8) Other i refl
 stamp-behind i (c ∷ s) = go (eqb c 63) refl (eqb c 35) refl
   where
     go : (a : Bool) → eqb c 63 ≡ a → (b : Bool) → eqb c 35 ≡ b → check_from (LineStamp 8) i (c ∷ s)
-        ≡ earlier (earlier (when (not a && not b) Other i) (earlier (when (a && not (begins 35 s)) Other (i + 1)) Sound))
-        (pick b (check_from (LineName 0) (i + 1) s) (pick (a && begins 35 s) (check_from (LineName 0) (i + 1 + 1) (drop 1 s)) Sound))
+        ≡ earlier (earlier (when (not a && not b) Other i) (earlier (when (a && not (begins 35 s)) Other (i + 1)) None))
+        (pick b (check_from (LineName 0) (i + 1) s) (pick (a && begins 35 s) (check_from (LineName 0) (i + 1 + 1) (drop 1 s)) None))
     go true e true g = absurd (omega (arith, eqb-true c 63 e, eqb-true c 35 g))
     go true e false g =
         turn-to (LineStamp 8) LineMark i c s (rw e refl) ∙ one LineMark (LineName 0) 35 Other (i + 1) s (λ d t z. refl) refl
@@ -86,17 +85,17 @@ module _ (i : ℕ) (s : List ℕ) where
   hexes = length (front is_hex s)
 
   -- what is found behind the stamp
-  abbrev beyond-stamp : Check
+  abbrev beyond-stamp : Option Fault
   beyond-stamp =
-      pick (begins 35 (drop 8 s)) (line_name_faults (i + 9) (drop 9 s)) (pick (begins_both 63 35 (drop 8 s)) (line_name_faults (i + 10) (drop 10 s)) Sound)
+      pick (begins 35 (drop 8 s)) (line_name_faults (i + 9) (drop 9 s)) (pick (begins_both 63 35 (drop 8 s)) (line_name_faults (i + 10) (drop 10 s)) None)
 
   from-stamp : (o : ℕ) → o ≤ i + 8 → From o beyond-stamp
   from-stamp o h =
       let x = line_name_faults (i + 9) (drop 9 s) in
       let y = line_name_faults (i + 10) (drop 10 s) in
       let from = from-part (LineName 0) line_name_faults line-name o in
-      from-pick o (begins 35 (drop 8 s)) x (pick (begins_both 63 35 (drop 8 s)) y Sound) (from (i + 9) (drop 9 s) (omega arith))
-      (from-pick o (begins_both 63 35 (drop 8 s)) y Sound (from (i + 10) (drop 10 s) (omega arith)) tt)
+      from-pick o (begins 35 (drop 8 s)) x (pick (begins_both 63 35 (drop 8 s)) y None) (from (i + 9) (drop 9 s) (omega arith))
+      (from-pick o (begins_both 63 35 (drop 8 s)) y None (from (i + 10) (drop 10 s) (omega arith)) tt)
 
   stamp-few : hexes < 8 → check_from (LineStamp 0) i s ≡ line_stamp_faults i s
   unfolding line_stamp_faults stamp_faults earliest
@@ -125,7 +124,7 @@ line-dollar : (i : ℕ) (s : List ℕ) → check_from LineDollar i s ≡ line_do
 unfolding step_of end_of line_dollar_faults
 line-dollar i s =
     one LineDollar (LineStamp 0) 36 Other i s (λ c t e. refl) refl
-    ∙ ap (λ (x : Check). earlier (when (not (begins 36 s)) Other i) (pick (begins 36 s) x Sound)) (line-stamp (i + 1) (drop 1 s))
+    ∙ ap (λ (x : Option Fault). earlier (when (not (begins 36 s)) Other i) (pick (begins 36 s) x None)) (line-stamp (i + 1) (drop 1 s))
 
 -- ---- The CRC
 
@@ -134,30 +133,30 @@ unfolding step_of end_of line_crc_faults
 line-crc i s =
     let t = past_digits s in
     crc-least LineCrc 35 LineDollar (λ k v c. refl) (λ k v. refl) i s
-    ∙ ap (λ (x : Check). earlier (crc_faults 35 i s) (pick (begins 35 t) x Sound)) (line-dollar (i + digits s + 1) (drop 1 t))
+    ∙ ap (λ (x : Option Fault). earlier (crc_faults 35 i s) (pick (begins 35 t) x None)) (line-dollar (i + digits s + 1) (drop 1 t))
 
 -- ---- The size
 
 -- what is found of the closing bytes, and behind them
-abbrev closing : ℕ → List ℕ → Check
-closing i s = pick (begins 13 s) Sound (pick (begins 35 s) (when (not (begins 124 (drop 1 s))) SizeOpen (i + 1)) (fault SizeOpen i))
+abbrev closing : ℕ → List ℕ → Option Fault
+closing i s = pick (begins 13 s) None (pick (begins 35 s) (when (not (begins 124 (drop 1 s))) SizeOpen (i + 1)) (fault SizeOpen i))
 
-abbrev beyond : ℕ → List ℕ → Check
-beyond i s = pick (begins 13 s) (end_faults (i + 1) (drop 1 s)) (pick (begins_both 35 124 s) (line_crc_faults (i + 2) (drop 2 s)) Sound)
+abbrev beyond : ℕ → List ℕ → Option Fault
+beyond i s = pick (begins 13 s) (end_faults (i + 1) (drop 1 s)) (pick (begins_both 35 124 s) (line_crc_faults (i + 2) (drop 2 s)) None)
 
 from-closing : (i : ℕ) (s : List ℕ) → From i (closing i s)
 from-closing i s =
     let b = not (begins 124 (drop 1 s)) in
     let x = when b SizeOpen (i + 1) in
-    from-pick i (begins 13 s) Sound (pick (begins 35 s) x (fault SizeOpen i)) tt
+    from-pick i (begins 13 s) None (pick (begins 35 s) x (fault SizeOpen i)) tt
     (from-pick i (begins 35 s) x (fault SizeOpen i) (from-when i b SizeOpen (i + 1) (omega arith)) (omega arith))
 
 from-beyond : (i : ℕ) (s : List ℕ) → From i (beyond i s)
 from-beyond i s =
     let x = end_faults (i + 1) (drop 1 s) in
     let y = line_crc_faults (i + 2) (drop 2 s) in
-    from-pick i (begins 13 s) x (pick (begins_both 35 124 s) y Sound) (from-part End end_faults line-end i (i + 1) (drop 1 s) (omega arith))
-    (from-pick i (begins_both 35 124 s) y Sound (from-part (LineCrc 0 0) line_crc_faults line-crc i (i + 2) (drop 2 s) (omega arith)) tt)
+    from-pick i (begins 13 s) x (pick (begins_both 35 124 s) y None) (from-part End end_faults line-end i (i + 1) (drop 1 s) (omega arith))
+    (from-pick i (begins_both 35 124 s) y None (from-part (LineCrc 0 0) line_crc_faults line-crc i (i + 2) (drop 2 s) (omega arith)) tt)
 
 -- behind 1 to 8 digits
 size-closed : (i k : ℕ) (s : List ℕ) → 1 ≤ k → Stops is_digit s → check_from (LineSize k) i s ≡ earlier (closing i s) (beyond i s)
@@ -169,8 +168,8 @@ size-closed i k (c ∷ s) h t = go (eqb c 13) refl (eqb c 35) refl
     to = size-behind LineSize line_closing (λ k c. refl) k c h t
 
     go : (a : Bool) → eqb c 13 ≡ a → (b : Bool) → eqb c 35 ≡ b → check_from (LineSize k) i (c ∷ s)
-        ≡ earlier (pick a Sound (pick b (when (not (begins 124 s)) SizeOpen (i + 1)) (fault SizeOpen i)))
-        (pick a (end_faults (i + 1) s) (pick (b && begins 124 s) (line_crc_faults (i + 2) (drop 1 s)) Sound))
+        ≡ earlier (pick a None (pick b (when (not (begins 124 s)) SizeOpen (i + 1)) (fault SizeOpen i)))
+        (pick a (end_faults (i + 1) s) (pick (b && begins 124 s) (line_crc_faults (i + 2) (drop 1 s)) None))
     go true e b g = turn-to (LineSize k) End i c s (to ∙ rw e refl) ∙ line-end (i + 1) s
     go false e true g =
         let n : i + 1 + 1 ≡ i + 2 = omega arith in

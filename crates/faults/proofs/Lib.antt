@@ -1,5 +1,5 @@
 pub mod Turns
-pub mod Crc
+pub mod Offsets
 pub mod Moves
 pub mod Place
 pub mod Offending

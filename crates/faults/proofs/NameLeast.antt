@@ -1,4 +1,6 @@
 -- A name that the table reads: the fault is the one that is found by looking, else the reading goes on behind the closing byte. Assumes nothing.
+use Rattle.fields.specs.declared.Fault.{Fault}
+use Rattle.std.specs.Prelude.{Err, None, Ok, Option, Some}
 use mathlib.Core.Path.{◌≡◌, refl, sym, ap, ◌∙◌}
 use mathlib.Core.Bool.{Bool, true, false, not}
 use mathlib.Core.List.{List, [], ◌∷◌}
@@ -15,11 +17,7 @@ use Rattle.fields.specs.Name.{is_name_byte}
 use Rattle.fields.specs.declared.Flaw.{Flaw}
 use Rattle.fields.specs.declared.Flaw.TheVariants.{NameOpen, NameLength, NameByte}
 use Rattle.fields.proofs.Lists.{le-or-lt}
-use Rattle.faults.specs.declared.Check.{Check}
-use Rattle.faults.specs.declared.Check.TheVariants.{Sound}
 use Rattle.faults.specs.declared.Stage.{Stage}
-use Rattle.faults.specs.declared.Move.TheVariants.{To, Offends}
-use Rattle.faults.specs.declared.Ending.TheVariants.{Missing}
 use Rattle.faults.specs.Faults.{step_of, end_of, name_part, in_part, fault, check_from}
 use Rattle.faults.specs.Search.{when, earlier, earliest, front, occurs, name_faults}
 use Rattle.faults.proofs.Turns.{turn-to, turn-wrong, turn_end}
@@ -27,12 +25,12 @@ use Rattle.faults.proofs.Earliest.{From, from-pick, from-when, from-earlier, fro
 
 -- ---- Looking, where k bytes of the name stand before: a bytes are left, u of them before the closing one, m name bytes at the front
 
-abbrev found : ℕ → ℕ → ℕ → ℕ → ℕ → Check
+abbrev found : ℕ → ℕ → ℕ → ℕ → ℕ → Option Fault
 found k i a u m =
     earlier (when (not (ltb u a)) NameOpen (i + a))
     (earlier (when (eqb (k + u) 0) NameLength i)
     (earlier (when (ltb 64 (k + u)) NameLength (i + (64 - k)))
-    (earlier (when (ltb m u) NameByte (i + m)) Sound)))
+    (earlier (when (ltb m u) NameByte (i + m)) None)))
 
 pub ltb-suc : (a b : ℕ) → ltb (suc a) (suc b) ≡ ltb a b
 ltb-suc a b = ⊎_elim
@@ -56,7 +54,7 @@ module _ (i : ℕ) where
   found-empty : (a : ℕ) → found 0 i (suc a) 0 0 ≡ fault NameLength i
   found-empty a = rw (lt-ltb 0 (suc a) (omega arith)) refl
 
-  found_none : (k a : ℕ) → k ≤ 64 → (k ≡ 0 → ⊥) → found k i (suc a) 0 0 ≡ Sound
+  found_none : (k a : ℕ) → k ≤ 64 → (k ≡ 0 → ⊥) → found k i (suc a) 0 0 ≡ None
   found_none k a h n = rw (lt-ltb 0 (suc a) (omega arith), add-zero k, ne_eqb k 0 n, le-ltb 64 k h) refl
 
   found-long : (a u m : ℕ) → found 64 i (suc a) (suc u) m ≡ fault NameLength i
@@ -86,29 +84,29 @@ module _ (i : ℕ) where
 
 module _ (z : ℕ) (part : ℕ → Stage) (next : Stage)
     (free : is_name_byte z ≡ false)
-    (step : (k c : ℕ) → step_of (part k) c ≡ in_part (name_part z k c) part (To next))
-    (end : (k : ℕ) → end_of (part k) ≡ Missing NameOpen) where
+    (step : (k c : ℕ) → step_of (part k) c ≡ in_part (name_part z k c) part (Ok next))
+    (end : (k : ℕ) → end_of (part k) ≡ Some NameOpen) where
   -- behind the name and its closing byte
-  abbrev pub behind : ℕ → List ℕ → Check
-  behind i s = pick (occurs z s) (check_from next (i + length (up_to z s) + 1) (drop (length (up_to z s) + 1) s)) Sound
+  abbrev pub behind : ℕ → List ℕ → Option Fault
+  behind i s = pick (occurs z s) (check_from next (i + length (up_to z s) + 1) (drop (length (up_to z s) + 1) s)) None
 
   from-behind : (i : ℕ) (s : List ℕ) → From i (behind i s)
   from-behind i s =
       let j = i + length (up_to z s) + 1 in
       let t = drop (length (up_to z s) + 1) s in
-      from-pick i (occurs z s) (check_from next j t) Sound (from-check next i j t (omega arith)) tt
+      from-pick i (occurs z s) (check_from next j t) None (from-check next i j t (omega arith)) tt
 
-  abbrev look : ℕ → ℕ → List ℕ → Check
+  abbrev look : ℕ → ℕ → List ℕ → Option Fault
   look k i s = found k i (length s) (length (up_to z s)) (length (front is_name_byte s))
 
   abbrev Told : ℕ → ℕ → List ℕ → Type 0
   Told k i s = check_from (part k) i s ≡ earlier (look k i s) (behind i s)
 
   -- the byte here offends
-  wrong : (w : Flaw) (k i c : ℕ) (s : List ℕ) → step_of (part k) c ≡ Offends w → look k i (c ∷ s) ≡ fault w i → Told k i (c ∷ s)
+  wrong : (w : Flaw) (k i c : ℕ) (s : List ℕ) → step_of (part k) c ≡ Err w → look k i (c ∷ s) ≡ fault w i → Told k i (c ∷ s)
   wrong w k i c s e f =
       let b = behind i (c ∷ s) in
-      turn-wrong (part k) w i c s e ∙ sym (ap (λ (x : Check). earlier x b) f ∙ earlier-first w i b (from-behind i (c ∷ s)))
+      turn-wrong (part k) w i c s e ∙ sym (ap (λ (x : Option Fault). earlier x b) f ∙ earlier-first w i b (from-behind i (c ∷ s)))
 
   told : (s : List ℕ) (k i : ℕ) → k ≤ 64 → Told k i s
   unfolding front up_to name_part

@@ -1,4 +1,6 @@
 -- The place of a fault is the length of the longest front that something well-formed begins with. Assumes nothing.
+use Rattle.fields.specs.declared.Flaw.{Flaw}
+use Rattle.std.specs.Prelude.{Err, None, Ok, Option, Result, Some}
 use mathlib.Core.Path.{◌≡◌, refl, sym, ap, subst, ◌∙◌}
 use mathlib.Core.Logic.{◌⊎◌, inl, inr, ⊎_elim}
 use mathlib.Core.List.{List, [], ◌∷◌, ◌++◌}
@@ -14,13 +16,9 @@ use Rattle.fields.specs.declared.Flaw.TheVariants.{SizeOpen, Other}
 use Rattle.fields.specs.declared.Fault.{Fault}
 use Rattle.fields.proofs.Lists.{either}
 use Rattle.numbers.specs.Reading.{hex_digit}
-use Rattle.faults.specs.declared.Check.{Check}
-use Rattle.faults.specs.declared.Check.TheVariants.{Sound, Faulty}
 use Rattle.faults.specs.declared.Stage.{Stage}
 use Rattle.faults.specs.declared.Stage.TheVariants.{HeaderName, HeaderSize, HeaderOption, OkName, OkDollar, OkKept, OkCrc, End}
 use Rattle.faults.specs.declared.Stage.TheVariants.{LineSize, LineBar, LineCrc, LineDollar, LineStamp, LineMark, LineName}
-use Rattle.faults.specs.declared.Move.{Move}
-use Rattle.faults.specs.declared.Move.TheVariants.{To, Offends}
 use Rattle.faults.specs.Faults.{name_part, size_part, crc_part, is_hex, only, in_ok, line_closing}
 use Rattle.faults.specs.Faults.{step_of, end_of, check_from, check_header, check_line, check_ok}
 use Rattle.faults.proofs.Turns.{faulty-sound, turn-to, turn-wrong, option-sound}
@@ -65,7 +63,7 @@ rest (OkCrc zero v) = 48 ∷ 13 ∷ []
 rest (OkCrc (suc k) v) = 13 ∷ []
 rest End = []
 
-live-stamp : (m k i : ℕ) → m ≡ 8 - k → check_from (LineStamp k) i (zeros m named) ≡ Sound
+live-stamp : (m k i : ℕ) → m ≡ 8 - k → check_from (LineStamp k) i (zeros m named) ≡ None
 unfolding zeros check_from step_of end_of is_name_byte name_part hex_digit
 live-stamp zero k i h = rw (le-leb 8 k (omega arith)) refl
 live-stamp (suc m) k i h = rw (lt-leb 8 k (omega arith)) (live-stamp m (k + 1) (i + 1) (omega arith))
@@ -75,7 +73,7 @@ unfolding zeros
 zeros-length zero l = omega arith
 zeros-length (suc m) l = let e = zeros-length m l in omega arith
 
-live : (q : Stage) (i : ℕ) → (check_from q i (rest q) ≡ Sound) × (length (rest q) ≤ 15)
+live : (q : Stage) (i : ℕ) → (check_from q i (rest q) ≡ None) × (length (rest q) ≤ 15)
 unfolding rest zeros check_from step_of end_of is_name_byte name_part size_part crc_part hex_digit
 live (HeaderName zero) i = (refl, omega arith)
 live (HeaderName (suc k)) i = (rw (ne_eqb (suc k) 0 (omega arith)) refl, omega arith)
@@ -109,12 +107,12 @@ pub record First (q : Stage) (i : ℕ) (s : List ℕ) (n : ℕ) : Type 0 where
   pub within : count ≤ length s
   pub more : List ℕ
   pub short : length more ≤ 15
-  pub begins : check_from q i (take count s ++ more) ≡ Sound
-  pub offends : count < length s → (t : List ℕ) → check_from q i (take (suc count) s ++ t) ≡ Sound → ⊥
+  pub begins : check_from q i (take count s ++ more) ≡ None
+  pub offends : count < length s → (t : List ℕ) → check_from q i (take (suc count) s ++ t) ≡ None → ⊥
 
 -- nothing of s begins anything
 at_once : (q : Stage) (i : ℕ) (s : List ℕ) (n : ℕ) → n ≡ i
-    → (0 < length s → (t : List ℕ) → check_from q i (take 1 s ++ t) ≡ Sound → ⊥) → First q i s n
+    → (0 < length s → (t : List ℕ) → check_from q i (take 1 s ++ t) ≡ None → ⊥) → First q i s n
 at_once q i s n e o = record {
   count = 0;
   is = e ∙ sym (add-zero i);
@@ -126,7 +124,7 @@ at_once q i s n e o = record {
 }
 
 -- THE PLACE: the front before it begins something well-formed, and where there is a byte at it, nothing well-formed begins with the bytes through it
-pub place : (q : Stage) (i : ℕ) (s : List ℕ) (f : Fault) → check_from q i s ≡ Faulty f → First q i s f.offset
+pub place : (q : Stage) (i : ℕ) (s : List ℕ) (f : Fault) → check_from q i s ≡ Some f → First q i s f.offset
 place q i s f e =
     along f (λ (q : Stage) (i : ℕ) (s : List ℕ). First q i s f.offset)
     (λ q i w h g. at_once q i [] f.offset (sym (ap (λ (x : Fault). x.offset) g)) (λ k. absurd (omega arith)))
@@ -134,7 +132,7 @@ place q i s f e =
     (λ k t z. faulty-sound (sym (turn-wrong q w i c (take 0 s ++ t) h) ∙ z)))
     next q i s e
   where
-    next : (q p : Stage) (i c : ℕ) (s : List ℕ) → step_of q c ≡ To p → check_from p (i + 1) s ≡ Faulty f
+    next : (q p : Stage) (i c : ℕ) (s : List ℕ) → step_of q c ≡ Ok p → check_from p (i + 1) s ≡ Some f
         → First p (i + 1) s f.offset → First q i (c ∷ s) f.offset
     next q p i c s h _ n = record {
       count = suc n.count;
@@ -167,60 +165,60 @@ room (OkCrc k v) = 5 - k + 1
 room End = 0
 
 -- a move leaves less than n, or leads to the option, where nothing is wrong
-abbrev Under : ℕ → Move → Type 0
-Under n (To q) = (q ≡ HeaderOption) ⊎ (room q < n)
-Under n (Offends f) = Unit {0}
+abbrev Under : ℕ → Result Stage Flaw → Type 0
+Under n (Ok q) = (q ≡ HeaderOption) ⊎ (room q < n)
+Under n (Err f) = Unit {0}
 
 lowers : (q : Stage) (c : ℕ) → Under (room q) (step_of q c)
 unfolding room step_of
 lowers (HeaderName k) c =
-    of-name (Under (64 - k + 9)) (λ _. tt) k c 0 HeaderName (To (HeaderSize 0)) (λ _ (h : k < 64). inr (omega arith)) (λ _ _. inr (omega arith))
+    of-name (Under (64 - k + 9)) (λ _. tt) k c 0 HeaderName (Ok (HeaderSize 0)) (λ _ (h : k < 64). inr (omega arith)) (λ _ _. inr (omega arith))
 lowers (HeaderSize k) c =
-    let P : Move → Type 0 = Under (8 - k) in
+    let P : Result Stage Flaw → Type 0 = Under (8 - k) in
     of_size P (λ _. tt) k c HeaderSize (only 0 c HeaderOption SizeOpen) (λ _ (h : k < 8). inr (omega arith))
     (λ _. of-only P 0 c HeaderOption SizeOpen tt (λ _. inl refl))
 lowers HeaderOption c = inl refl
 lowers (LineSize k) c =
-    let P : Move → Type 0 = Under (8 - k + 84) in
+    let P : Result Stage Flaw → Type 0 = Under (8 - k + 84) in
     of_size P (λ _. tt) k c LineSize (line_closing c) (λ _ (h : k < 8). inr (omega arith))
     (λ _. either P (eqb c 13) _ _ (λ _. inr (omega arith)) (λ _. of-only P 35 c LineBar SizeOpen tt (λ _. inr (omega arith))))
 lowers LineBar c = of-only (Under 83) 124 c (LineCrc 0 0) SizeOpen tt (λ _. inr (omega arith))
 lowers (LineCrc k v) c =
-    let P : Move → Type 0 = Under (5 - k + 77) in
+    let P : Result Stage Flaw → Type 0 = Under (5 - k + 77) in
     of-crc P tt k c v LineCrc (only 35 c LineDollar Other) (λ _ (h : k < 5) _. inr (omega arith))
     (λ _. of-only P 35 c LineDollar Other tt (λ _. inr (omega arith)))
 lowers LineDollar c = of-only (Under 76) 36 c (LineStamp 0) Other tt (λ _. inr (omega arith))
 lowers (LineStamp k) c =
-    let P : Move → Type 0 = Under (8 - k + 67) in
+    let P : Result Stage Flaw → Type 0 = Under (8 - k + 67) in
     either P (leb 8 k) _ _
     (λ _. either P (eqb c 63) _ _ (λ _. inr (omega arith)) (λ _. of-only P 35 c (LineName 0) Other tt (λ _. inr (omega arith))))
     (λ h. either P (is_hex c) _ _ (λ _. let g = leb-false 8 k h in inr (omega arith)) (λ _. tt))
 lowers LineMark c = of-only (Under 66) 35 c (LineName 0) Other tt (λ _. inr (omega arith))
 lowers (LineName k) c =
-    of-name (Under (64 - k + 1)) (λ _. tt) k c 13 LineName (To End) (λ _ (h : k < 64). inr (omega arith)) (λ _ _. inr (omega arith))
+    of-name (Under (64 - k + 1)) (λ _. tt) k c 13 LineName (Ok End) (λ _ (h : k < 64). inr (omega arith)) (λ _ _. inr (omega arith))
 lowers (OkName k) c =
-    let P : Move → Type 0 = Under (64 - k + 17) in
+    let P : Result Stage Flaw → Type 0 = Under (64 - k + 17) in
     either P (eqb c 13) _ _ (λ _. inr (omega arith))
-    (λ _. of-name (λ (m : Move). P (in_ok m)) (λ _. tt) k c 35 OkName (To OkDollar) (λ _ (h : k < 64). inr (omega arith)) (λ _ _. inr (omega arith)))
+    (λ _. of-name (λ (m : Result Stage Flaw). P (in_ok m)) (λ _. tt) k c 35 OkName (Ok OkDollar) (λ _ (h : k < 64). inr (omega arith)) (λ _ _. inr (omega arith)))
 lowers OkDollar c = of-only (Under 16) 36 c (OkKept 0) Other tt (λ _. inr (omega arith))
 lowers (OkKept k) c =
-    let P : Move → Type 0 = λ (m : Move). Under (8 - k + 7) (in_ok m) in
+    let P : Result Stage Flaw → Type 0 = λ (m : Result Stage Flaw). Under (8 - k + 7) (in_ok m) in
     of_size P (λ _. tt) k c OkKept (only 35 c (OkCrc 0 0) Other) (λ _ (h : k < 8). inr (omega arith))
     (λ _. of-only P 35 c (OkCrc 0 0) Other tt (λ _. inr (omega arith)))
 lowers (OkCrc k v) c =
-    let P : Move → Type 0 = Under (5 - k + 1) in
+    let P : Result Stage Flaw → Type 0 = Under (5 - k + 1) in
     of-crc P tt k c v OkCrc (only 13 c End Other) (λ _ (h : k < 5) _. inr (omega arith)) (λ _. of-only P 13 c End Other tt (λ _. inr (omega arith)))
 lowers End c = tt
 
 -- a fault lies within the room of its stage
-pub place-room : (q : Stage) (i : ℕ) (s : List ℕ) (f : Fault) → check_from q i s ≡ Faulty f → f.offset ≤ i + room q
+pub place-room : (q : Stage) (i : ℕ) (s : List ℕ) (f : Fault) → check_from q i s ≡ Some f → f.offset ≤ i + room q
 place-room q i s f e =
     along f (λ (q : Stage) (i : ℕ) (s : List ℕ). f.offset ≤ i + room q)
     (λ q i w h g. let o = ap (λ (x : Fault). x.offset) g in omega arith)
     (λ q i c s w h g. let o = ap (λ (x : Fault). x.offset) g in omega arith)
     next q i s e
   where
-    next : (q p : Stage) (i c : ℕ) (s : List ℕ) → step_of q c ≡ To p → check_from p (i + 1) s ≡ Faulty f
+    next : (q p : Stage) (i c : ℕ) (s : List ℕ) → step_of q c ≡ Ok p → check_from p (i + 1) s ≡ Some f
         → f.offset ≤ i + 1 + room p → f.offset ≤ i + room q
     next q p i c s h e n =
         ⊎_elim (λ o. faulty-sound (sym e ∙ ap (λ (x : Stage). check_from x (i + 1) s) o ∙ option-sound (i + 1) s))
@@ -228,26 +226,26 @@ place-room q i s f e =
         (subst (Under (room q)) h (lowers q c))
 
 -- the longest fronts: a header's name, 00 and size
-pub short-header : (d : List ℕ) (f : Fault) → check_header d ≡ Faulty f → f.offset ≤ 73
+pub short-header : (d : List ℕ) (f : Fault) → check_header d ≡ Some f → f.offset ≤ 73
 unfolding check_header room
 short-header d f e = place-room (HeaderName 0) 0 d f e
 
 -- a whole line with its `?`
-pub short-line : (b : List ℕ) (f : Fault) → check_line b ≡ Faulty f → f.offset ≤ 97
+pub short-line : (b : List ℕ) (f : Fault) → check_line b ≡ Some f → f.offset ≤ 97
 unfolding check_line room
 short-line b f e = place-room (LineSize 0) 5 (drop 5 b) f e
 
 -- a whole OK with size and CRC
-pub short_ok : (b : List ℕ) (f : Fault) → check_ok b ≡ Faulty f → f.offset ≤ 85
+pub short_ok : (b : List ℕ) (f : Fault) → check_ok b ≡ Some f → f.offset ≤ 85
 unfolding check_ok room
 short_ok b f e = place-room (OkName 0) 4 (drop 4 b) f e
 
 -- a place in a frame lies behind the mark that the frame starts with
-pub past-line : (b : List ℕ) (f : Fault) → check_line b ≡ Faulty f → 5 ≤ f.offset
+pub past-line : (b : List ℕ) (f : Fault) → check_line b ≡ Some f → 5 ≤ f.offset
 unfolding check_line
 past-line b f e = let h = (place (LineSize 0) 5 (drop 5 b) f e).is in omega arith
 
-pub past-ok : (b : List ℕ) (f : Fault) → check_ok b ≡ Faulty f → 4 ≤ f.offset
+pub past-ok : (b : List ℕ) (f : Fault) → check_ok b ≡ Some f → 4 ≤ f.offset
 unfolding check_ok
 past-ok b f e = let h = (place (OkName 0) 4 (drop 4 b) f e).is in omega arith
 
@@ -255,12 +253,12 @@ past-ok b f e = let h = (place (OkName 0) 4 (drop 4 b) f e).is in omega arith
 
 -- what is asked of the place n of a fault in b: the n bytes before it begin something well-formed, no longer than a packet's data or a frame can be;
 -- where there is a byte at it, nothing well-formed begins with the bytes through it
-pub record Place (check : List ℕ → Check) (b : List ℕ) (n : ℕ) : Type 0 where
+pub record Place (check : List ℕ → Option Fault) (b : List ℕ) (n : ℕ) : Type 0 where
   pub within : n ≤ length b
   pub more : List ℕ
-  pub begins : check (take n b ++ more) ≡ Sound
+  pub begins : check (take n b ++ more) ≡ None
   pub short : n + length more ≤ 255
-  pub offends : n < length b → (t : List ℕ) → check (take (suc n) b ++ t) ≡ Sound → ⊥
+  pub offends : n < length b → (t : List ℕ) → check (take (suc n) b ++ t) ≡ None → ⊥
 
 -- behind k bytes that a check passes over
 passed : (k m : ℕ) (b t : List ℕ) → k ≤ length b → drop k (take (k + m) b ++ t) ≡ take m (drop k b) ++ t
@@ -286,16 +284,16 @@ placed q k n b h l p =
     })
 
 -- THE PLACE in the data of a header
-pub place-header : (d : List ℕ) (f : Fault) → check_header d ≡ Faulty f → Place check_header d f.offset
+pub place-header : (d : List ℕ) (f : Fault) → check_header d ≡ Some f → Place check_header d f.offset
 unfolding check_header
 place-header d f e = let l = short-header d f e in placed (HeaderName 0) 0 f.offset d zero-le (omega arith) (place (HeaderName 0) 0 d f e)
 
 -- in a frame that starts `#BIN#`
-pub place-line : (b : List ℕ) (f : Fault) → 5 ≤ length b → check_line b ≡ Faulty f → Place check_line b f.offset
+pub place-line : (b : List ℕ) (f : Fault) → 5 ≤ length b → check_line b ≡ Some f → Place check_line b f.offset
 unfolding check_line
 place-line b f h e = placed (LineSize 0) 5 f.offset b h (short-line b f e) (place (LineSize 0) 5 (drop 5 b) f e)
 
 -- in one that starts `#OK#`
-pub place_ok : (b : List ℕ) (f : Fault) → 4 ≤ length b → check_ok b ≡ Faulty f → Place check_ok b f.offset
+pub place_ok : (b : List ℕ) (f : Fault) → 4 ≤ length b → check_ok b ≡ Some f → Place check_ok b f.offset
 unfolding check_ok
 place_ok b f h e = let l = short_ok b f e in placed (OkName 0) 4 f.offset b h (omega arith) (place (OkName 0) 4 (drop 4 b) f e)

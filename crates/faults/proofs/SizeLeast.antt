@@ -1,4 +1,6 @@
 -- The size's earliest fault is the one that the table finds, whatever closes it. Assumes nothing.
+use Rattle.fields.specs.declared.Fault.{Fault}
+use Rattle.std.specs.Prelude.{None, Ok, Option, Result, Some}
 use mathlib.Core.Path.{◌≡◌, refl, sym, ap, subst, ◌∙◌}
 use mathlib.Core.Bool.{true, false}
 use mathlib.Core.List.{List, [], ◌∷◌}
@@ -11,19 +13,14 @@ use Rattle.fields.specs.declared.Flaw.{Flaw}
 use Rattle.fields.specs.declared.Flaw.TheVariants.{NoDigits, ManyDigits}
 use Rattle.fields.proofs.Lists.{le-or-lt, eq-or-not}
 use Rattle.numbers.specs.Reading.{is_digit}
-use Rattle.faults.specs.declared.Check.{Check}
-use Rattle.faults.specs.declared.Check.TheVariants.{Sound}
 use Rattle.faults.specs.declared.Stage.{Stage}
-use Rattle.faults.specs.declared.Move.{Move}
-use Rattle.faults.specs.declared.Move.TheVariants.{To}
-use Rattle.faults.specs.declared.Ending.TheVariants.{Missing}
 use Rattle.faults.specs.Faults.{size_part, in_part, step_of, end_of, fault, check_from}
 use Rattle.faults.specs.Search.{earlier, earliest, digits, past_digits, size_faults}
 use Rattle.faults.proofs.Turns.{turn-wrong, turn_end}
 use Rattle.faults.proofs.Earliest.{From, from-later, earlier-none, earlier-leads, Stops, front-stops, over, over-most}
 
-module _ (part : ℕ → Stage) (behind : ℕ → Move) (step : (k c : ℕ) → step_of (part k) c ≡ in_part (size_part k c) part (behind c)) where
-  pub size-more : (k c : ℕ) → is_digit c ≡ true → k < 8 → step_of (part k) c ≡ To (part (k + 1))
+module _ (part : ℕ → Stage) (behind : ℕ → Result Stage Flaw) (step : (k c : ℕ) → step_of (part k) c ≡ in_part (size_part k c) part (behind c)) where
+  pub size-more : (k c : ℕ) → is_digit c ≡ true → k < 8 → step_of (part k) c ≡ Ok (part (k + 1))
   unfolding size_part
   size-more k c d h = step k c ∙ rw (d, lt-leb 8 k h) refl
 
@@ -33,16 +30,16 @@ module _ (part : ℕ → Stage) (behind : ℕ → Move) (step : (k c : ℕ) → 
   size-behind k c h d = step k c ∙ rw (d, ne_eqb k 0 (λ e. omega (arith, e, h))) refl
 
   -- x is what is found behind the digits of the size, y what is found behind the size
-  module _ (ends : end_of (part 0) ≡ Missing NoDigits) (i : ℕ) (s : List ℕ) (x y : Check) (a : From (i + digits s) x) (b : From (i + digits s) y) where
+  module _ (ends : end_of (part 0) ≡ Some NoDigits) (i : ℕ) (s : List ℕ) (x y : Option Fault) (a : From (i + digits s) x) (b : From (i + digits s) y) where
     stops : (l : List ℕ) → Stops is_digit l → check_from (part 0) i l ≡ fault NoDigits i
     unfolding size_part
     stops [] t = turn_end (part 0) NoDigits i ends
     stops (c ∷ l) t = turn-wrong (part 0) NoDigits i c l (step 0 c ∙ rw t refl)
 
     -- a fault at or before what stands behind the digits
-    wins : (w : Flaw) (o : ℕ) → o ≤ i + digits s → earlier (earlier (fault w o) (earlier x Sound)) y ≡ fault w o
+    wins : (w : Flaw) (o : ℕ) → o ≤ i + digits s → earlier (earlier (fault w o) (earlier x None)) y ≡ fault w o
     wins w o h =
-        ap (λ (z : Check). earlier (earlier (fault w o) z) y) (earlier-none x)
+        ap (λ (z : Option Fault). earlier (earlier (fault w o) z) y) (earlier-none x)
         ∙ earlier-leads w o x y (from-later o (i + digits s) x h a) (from-later o (i + digits s) y h b)
 
     none : digits s ≡ 0 → check_from (part 0) i s ≡ earlier (size_faults i s x) y

@@ -1,4 +1,6 @@
 -- When there is nothing to find: a name that is closed and within the limits, digits that are closed. Assumes nothing.
+use Rattle.fields.specs.declared.Fault.{Fault}
+use Rattle.std.specs.Prelude.{None, Option, Some}
 use mathlib.Core.Path.{◌≡◌, refl, sym, ap, ◌∙◌}
 use mathlib.Core.Bool.{Bool, true, false, not, ◌&&◌, and-true, and-false, not-not}
 use mathlib.Core.List.{List, [], ◌∷◌}
@@ -14,8 +16,6 @@ use Rattle.fields.specs.declared.Flaw.{Flaw}
 use Rattle.fields.specs.declared.Flaw.TheVariants.{SizeOpen}
 use Rattle.fields.proofs.Lists.{le-or-lt, either, never}
 use Rattle.numbers.specs.Reading.{is_digit, read_size, read_crc}
-use Rattle.faults.specs.declared.Check.{Check}
-use Rattle.faults.specs.declared.Check.TheVariants.{Sound, Faulty}
 use Rattle.faults.specs.Faults.{is_sound}
 use Rattle.faults.specs.Search.{when, earlier, earliest, front, begins, occurs, digits, past_digits, is_value, name_faults, size_faults, crc_faults}
 use Rattle.faults.proofs.Values.{decimal-sound}
@@ -23,17 +23,17 @@ use Rattle.faults.proofs.NameLeast.{ltb-suc}
 
 -- ---- Of several
 
-pub sound-earlier : (x y : Check) → is_sound (earlier x y) ≡ (is_sound x && is_sound y)
-sound-earlier Sound y = refl
-sound-earlier (Faulty f) Sound = refl
-sound-earlier (Faulty f) (Faulty g) =
-    either (λ (x : Check). is_sound x ≡ false) (leb f.offset g.offset) (Faulty f) (Faulty g) (λ _. refl) (λ _. refl)
+pub sound-earlier : (x y : Option Fault) → is_sound (earlier x y) ≡ (is_sound x && is_sound y)
+sound-earlier None y = refl
+sound-earlier (Some f) None = refl
+sound-earlier (Some f) (Some g) =
+    either (λ (x : Option Fault). is_sound x ≡ false) (leb f.offset g.offset) (Some f) (Some g) (λ _. refl) (λ _. refl)
 
 sound-when : (b : Bool) (w : Flaw) (i : ℕ) → is_sound (when b w i) ≡ not b
 sound-when true w i = refl
 sound-when false w i = refl
 
-sound-after : (b : Bool) (w : Flaw) (i : ℕ) (x : Check) → is_sound (earlier (when b w i) x) ≡ (not b && is_sound x)
+sound-after : (b : Bool) (w : Flaw) (i : ℕ) (x : Option Fault) → is_sound (earlier (when b w i) x) ≡ (not b && is_sound x)
 sound-after b w i x = sound-earlier (when b w i) x ∙ ap (λ (t : Bool). t && is_sound x) (sound-when b w i)
 
 pub leb-not : (a b : ℕ) → leb a b ≡ not (ltb b a)
@@ -46,9 +46,9 @@ pub some-not : (a : ℕ) → leb 1 a ≡ not (eqb a 0)
 some-not zero = refl
 some-not (suc a) = rw (le-leb 1 (suc a) (omega arith), ne_eqb (suc a) 0 (omega arith)) refl
 
-pub sound-is : (x : Check) → is_sound x ≡ true → x ≡ Sound
-sound-is Sound h = refl
-sound-is (Faulty f) h = never h
+pub sound-is : (x : Option Fault) → is_sound x ≡ true → x ≡ None
+sound-is None h = refl
+sound-is (Some f) h = never h
 
 -- ---- The front and the closing byte z, which does not meet f
 

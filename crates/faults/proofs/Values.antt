@@ -1,4 +1,5 @@
 -- Names and numbers by their bytes: those that are read have the bytes that the table counts, and such bytes are read. Assumes nothing.
+use Rattle.std.specs.Prelude.{None, Option, Some, ℕ}
 use mathlib.Core.Path.{◌≡◌, refl, sym, ap, ◌∙◌}
 use mathlib.Core.Bool.{Bool, true, false, ◌&&◌}
 use mathlib.Core.List.{List, [], ◌∷◌}
@@ -7,15 +8,14 @@ use native.Mathlib.Omega.{arith}
 use lib.ListN.{length}
 use lib.Dec.{leb, ltb}
 use borrow.Author.Tests.{le-leb, leb-true, lt-ltb, eq-eqb}
+use Rattle.std.specs.Char.{is_ascii_hexdigit}
 use Rattle.fields.specs.Pick.{pick}
 use Rattle.fields.specs.Lists.{all}
 use Rattle.fields.specs.Name.{is_name_byte, is_name}
 use Rattle.fields.proofs.Lists.{both, never}
-use Rattle.numbers.specs.declared.Number.{Number}
-use Rattle.numbers.specs.declared.Number.TheVariants.{Value, Malformed}
 use Rattle.numbers.specs.declared.Base.{Base}
 use Rattle.numbers.specs.declared.Base.TheVariants.{Decimal, Hex}
-use Rattle.numbers.specs.Reading.{radix, is_digit, decimal_digit, digit, value_from, read_decimal, read_size, read_hex}
+use Rattle.numbers.specs.Reading.{radix, is_digit, hex_digit, decimal_digit, digit, value_from, read_decimal, read_size, read_hex}
 use Rattle.faults.specs.Faults.{is_hex}
 use Rattle.faults.specs.Search.{is_value}
 
@@ -46,8 +46,19 @@ digit-test Decimal c = go (is_digit c) refl
     go false e = refl
 digit-test Hex c = refl
 
+-- the library's hex digits are those whose value is below 16
+pub ascii_hexdigit : (c : ℕ) → is_ascii_hexdigit c ≡ is_hex c
+unfolding hex_digit
+ascii_hexdigit c = go (is_digit c) refl (leb 65 c && leb c 70) refl (leb 97 c && leb c 102) refl
+  where
+    go : (d : Bool) → is_digit c ≡ d → (u : Bool) → (leb 65 c && leb c 70) ≡ u → (l : Bool) → (leb 97 c && leb c 102) ≡ l → is_ascii_hexdigit c ≡ is_hex c
+    go true e u f l g = rw e (sym (lt-ltb (c - 48) 16 (omega (arith, leb-true c 57 (both (leb 48 c) (leb c 57) e).1))))
+    go false e true f l g = rw (e, f) (sym (lt-ltb (c - 55) 16 (omega (arith, leb-true c 70 (both (leb 65 c) (leb c 70) f).1))))
+    go false e false f true g = rw (e, f, g) (sym (lt-ltb (c - 87) 16 (omega (arith, leb-true c 102 (both (leb 97 c) (leb c 102) g).1))))
+    go false e false f false g = rw (e, f, g) refl
+
 -- n, where t holds
-where-value : (t : Bool) (n : Number) (u : Bool) → is_value n ≡ u → is_value (pick t n Malformed) ≡ (t && u)
+where-value : (t : Bool) (n : Option ℕ) (u : Bool) → is_value n ≡ u → is_value (pick t n None) ≡ (t && u)
 where-value true n u e = e
 where-value false n u e = refl
 
@@ -59,17 +70,17 @@ value-sound b acc (c ∷ s) =
     let v = acc * radix b + digit b c in
     rw (digit-test b c) (where-value (ltb (digit b c) (radix b)) (value_from b v s) (all (is_of b) s) (value-sound b v s))
 
-pub value-digits : (b : Base) (s : List ℕ) (v : ℕ) → value_from b 0 s ≡ Value v → all (is_of b) s ≡ true
+pub value-digits : (b : Base) (s : List ℕ) (v : ℕ) → value_from b 0 s ≡ Some v → all (is_of b) s ≡ true
 value-digits b s v e = sym (value-sound b 0 s) ∙ ap is_value e
 
 -- what n is, is a number
-pub record Valued (n : Number) : Type 0 where
+pub record Valued (n : Option ℕ) : Type 0 where
   pub value : ℕ
-  pub is : n ≡ Value value
+  pub is : n ≡ Some value
 
-pub valued : (n : Number) → is_value n ≡ true → Valued n
-valued (Value v) h = record { value = v; is = refl }
-valued Malformed h = never h
+pub valued : (n : Option ℕ) → is_value n ≡ true → Valued n
+valued (Some v) h = record { value = v; is = refl }
+valued None h = never h
 
 module _ (s : List ℕ) where
   pub decimal-sound : (n : ℕ) → is_value (read_decimal n s) ≡ ((leb 1 (length s) && leb (length s) n) && all is_digit s)

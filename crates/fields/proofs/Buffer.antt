@@ -1,4 +1,6 @@
 -- The laws of bytes laid over a buffer. Assumes nothing.
+use Rattle.fields.specs.declared.WriteError.TheVariants.{Formless, Small}
+use Rattle.std.specs.Prelude.{Err, Ok}
 use mathlib.Core.Path.{◌≡◌, refl, sym, ap, ◌∙◌}
 use mathlib.Core.Bool.{Bool, true, false}
 use mathlib.Core.List.{List, [], ◌∷◌, ◌++◌, append_assoc, append-nil}
@@ -12,7 +14,6 @@ use lib.Seq.{take_at, drop_at, set_split, drop-drop, take-take, drop-append-le}
 use borrow.Rule.Slice.PartMut.{mid_of, put_mid, put_same}
 use borrow.Author.Tests.{le-leb, lt-leb, lt-ltb, le-ltb}
 use Rattle.fields.proofs.Lists.{le-or-lt}
-use Rattle.fields.specs.declared.Written.TheVariants.{Bytes, Small, Formless}
 use Rattle.fields.specs.Buffer.{over, placed, placed_count, appended, appended_end, Form, formless, bytes, form_if, written_of, left_of}
 
 pub placed-fits : (bs d : List ℕ) → length bs ≤ length d → placed bs d ≡ over 0 bs d
@@ -30,6 +31,17 @@ count_fits bs d h = simp (le-leb (0 + length bs) (length d) (omega arith)) (zero
 pub count-short : (bs d : List ℕ) → length d < length bs → placed_count bs d ≡ 0
 unfolding appended_end
 count-short bs d h = simp (lt-leb (0 + length bs) (length d) (omega arith))
+
+pub put_short_count : (bs d : List ℕ) → length d < length bs → 0 ≡ placed_count bs d
+put_short_count bs d h = sym (count-short bs d h)
+
+pub put_short_bytes : (bs d : List ℕ) → length d < length bs → d ≡ placed bs d
+put_short_bytes bs d h = sym (placed-short bs d h)
+
+-- bytes copied over the beginning
+pub put_copied : (bs d e : List ℕ) → length bs ≤ length d → e ≡ bs → (length bs ≡ placed_count bs d) × (e ++ drop (length bs) d ≡ placed bs d)
+unfolding over
+put_copied bs d e h q = (sym (count_fits bs d h), simp (placed-fits bs d h, zero-add, q))
 
 -- the buffer keeps its length
 pub length_over : (at : ℕ) (bs d : List ℕ) → at + length bs ≤ length d → length (over at bs d) ≡ length d
@@ -232,15 +244,15 @@ form-is false s bs h = formless-not bs h
 
 -- What a writer answers, and the buffer it leaves: too small a buffer, no form, and the bytes written
 module _ (least : ℕ) (f : Form) (d : List ℕ) where
-  pub small : length d < least → (Small ≡ written_of least f d) × (d ≡ left_of least f d)
+  pub small : length d < least → ((Err Small) ≡ written_of least f d) × (d ≡ left_of least f d)
   unfolding written_of left_of
   small h = (simp (lt-ltb _ _ h), simp (lt-ltb _ _ h))
 
-  pub refused : f ≡ formless → least ≤ length d → (Formless ≡ written_of least f d) × (d ≡ left_of least f d)
+  pub refused : f ≡ formless → least ≤ length d → ((Err Formless) ≡ written_of least f d) × (d ≡ left_of least f d)
   unfolding written_of left_of
   refused e h = (simp (le-ltb _ _ h, e), simp (le-ltb _ _ h, e))
 
   pub written : (bs e : List ℕ) (n : ℕ) → f ≡ bytes bs → least ≤ length d → n ≡ length bs → e ≡ over 0 bs d
-      → (Bytes n ≡ written_of least f d) × (e ≡ left_of least f d)
+      → (Ok n ≡ written_of least f d) × (e ≡ left_of least f d)
   unfolding written_of left_of
   written bs e n q h c o = (simp (le-ltb _ _ h, q, c), simp (le-ltb _ _ h, q) o)

@@ -1,7 +1,7 @@
 -- Laws of the words about lists. A loop over a slice cites the law of one turn, at the place i of the list s, and that of the end.
 -- Assumes nothing.
 use mathlib.Core.Path.{◌≡◌, refl, sym, ap, ◌∙◌}
-use mathlib.Core.Bool.{Bool, true, false, not, ◌&&◌, false≢true}
+use mathlib.Core.Bool.{Bool, true, false, not, ◌&&◌, cond, false≢true}
 use mathlib.Core.Logic.{◌⊎◌, inl, inr, ⊎_elim}
 use mathlib.Core.List.{List, [], ◌∷◌, ◌++◌, append-nil}
 use Prim.Native.Nat.{ℕ, zero, suc, ◌+◌, ◌-◌, ◌≤◌, ◌<◌, zero-le, suc-le-suc}
@@ -9,8 +9,12 @@ use native.Mathlib.Numerals.{add-one}
 use native.Mathlib.Omega.{arith}
 use lib.ListN.{length, take, drop, get_or, length-append, length-take, length-drop, drop_of_length-le}
 use lib.Seq.{drop-cons, drop-append-add, take_all, take-nil}
-use lib.Dec.{leb, eqb}
-use borrow.Author.Tests.{le-leb, leb-true, eq-eqb, ne_eqb, eqb-true, eqb-false}
+use lib.Dec.{leb, ltb, eqb}
+use borrow.Author.Tests.{le-leb, leb-true, eq-eqb, ne_eqb, eqb-true, eqb-false, ltb-false}
+use lib.Pointwise.{pointwise}
+use Rattle.std.specs.Prelude.{Option, Some, None}
+use Rattle.std.specs.Option.{unwrap_or}
+use Rattle.std.specs.List.{list_all, position, position_or_len}
 use Rattle.fields.specs.Pick.{pick}
 use Rattle.fields.specs.Lists.{all, up_to, same}
 use Rattle.fields.specs.Name.{is_name_byte, is_name}
@@ -47,15 +51,9 @@ drop-one s i h = rw add-one (drop-cons s i 0 h)
 pub tail-is : (s : List ℕ) (a : ℕ) → take (length s - a) (drop a s) ≡ drop a s
 tail-is s a = take_all (length s - a) (drop a s) (rw length-drop (omega arith))
 
--- the three answers of `part`
+-- nothing stands past the end
 pub part_none : (s : List ℕ) (a n : ℕ) → length s < a → take 0 s ≡ take n (drop a s)
 part_none s a n h = sym (ap (take n) (drop_of_length-le s {i = a} (omega arith)) ∙ take-nil n)
-
-pub part-short : (s : List ℕ) (a n : ℕ) → length s - a < n → take (length s - a) (drop a s) ≡ take n (drop a s)
-part-short s a n h = tail-is s a ∙ sym (take_all n (drop a s) (rw length-drop (omega arith)))
-
-pub part-whole : (s : List ℕ) (a n : ℕ) → take (a + n - a) (drop a s) ≡ take n (drop a s)
-part-whole s a n = let e : a + n - a ≡ n = omega arith in rw e
 
 -- two elements that are equal, two that are not, and the end
 module _ (s t : List ℕ) (i : ℕ) (h : i < length s) (g : i < length t) where
@@ -70,6 +68,18 @@ module _ (s t : List ℕ) (i : ℕ) (h : i < length s) (g : i < length t) where
 pub same_end : (s t : List ℕ) (i : ℕ) → length s ≤ i → length t ≤ i → same (drop i s) (drop i t) ≡ true
 unfolding same
 same_end s t i h g = rw (drop_of_length-le s h, drop_of_length-le t g)
+
+-- what `==` of slices answers
+pub same_pointwise : (s t : List ℕ) → pointwise eqb s t ≡ same s t
+unfolding same
+same_pointwise [] [] = refl
+same_pointwise [] (y ∷ t) = refl
+same_pointwise (x ∷ s) [] = refl
+same_pointwise (x ∷ s) (y ∷ t) = go (eqb x y) (same_pointwise s t)
+  where
+    go : (b : Bool) {p q : Bool} → p ≡ q → (b && p) ≡ pick b q false
+    go true e = e
+    go false e = refl
 
 pub same_refl : (s : List ℕ) → same s s ≡ true
 unfolding same
@@ -93,7 +103,7 @@ same_length s t h = go (same s t) refl
     go true e = absurd (h (ap length (same-eq s t e)))
     go false e = refl
 
--- the bytes before the first x: an x, any other byte, and the end
+-- the bytes before the first x: an x, and any other byte
 pub up_to-here : (x c : ℕ) (s : List ℕ) → c ≡ x → up_to x (c ∷ s) ≡ []
 unfolding up_to
 up_to-here x c s e = rw (eq-eqb c x e)
@@ -102,16 +112,15 @@ pub up_to-next : (x c : ℕ) (s : List ℕ) → (c ≡ x → ⊥) → up_to x (c
 unfolding up_to
 up_to-next x c s h = rw (ne_eqb c x h)
 
-module _ (x : ℕ) (s : List ℕ) (i : ℕ) (inside : i < length s) where
-  pub find-here : get_or s i 0 ≡ x → length (up_to x (drop i s)) ≡ 0
-  find-here e = rw (drop-one s i inside, up_to-here x (get_or s i 0) (drop (i + 1) s) e)
-
-  pub find-more : (get_or s i 0 ≡ x → ⊥) → length (up_to x (drop i s)) ≡ suc (length (up_to x (drop (i + 1) s)))
-  find-more h = rw (drop-one s i inside, up_to-next x (get_or s i 0) (drop (i + 1) s) h)
-
-pub find-end : (x : ℕ) (s : List ℕ) (i : ℕ) → length s ≤ i → length (up_to x (drop i s)) ≡ 0
+-- what `position` answers
+pub position-up_to : (x : ℕ) (s : List ℕ) → position_or_len (λ c. eqb c x) s ≡ length (up_to x s)
 unfolding up_to
-find-end x s i h = rw (drop_of_length-le s h)
+position-up_to x [] = refl
+position-up_to x (c ∷ s) = go (eqb c x) (position-up_to x s)
+  where
+    go : (b : Bool) {m : ℕ} → m ≡ length (up_to x s) → cond (not b) (1 + m) 0 ≡ length (pick b [] (c ∷ up_to x s))
+    go true e = refl
+    go false e = omega (arith, e)
 
 pub take-up_to : (x : ℕ) (s : List ℕ) (n : ℕ) → n ≡ length (up_to x s) → take n s ≡ up_to x s
 unfolding up_to
@@ -123,6 +132,20 @@ take-up_to x s n e = ap (λ (k : ℕ). take k s) e ∙ front s
 
 pub up_to-le : (x : ℕ) (s : List ℕ) → length (up_to x s) ≤ length s
 up_to-le x s = omega (arith, simp length-take at (ap length (take-up_to x s (length (up_to x s)) refl)))
+
+-- what `position` with `unwrap_or` answers
+pub find-is : (x : ℕ) (s : List ℕ) (r : Option ℕ) (n : ℕ) → r ≡ position (λ c. eqb c x) s → n ≡ unwrap_or r (length s)
+    → (n ≡ length (up_to x s)) × (n ≤ length s)
+find-is x s r n q e =
+    let m = length (up_to x s) in
+    let w : n ≡ unwrap_or (cond (ltb m (length s)) (Some m) None) (length s) =
+    rw (position-up_to x s) at (e ∙ ap (λ (o : Option ℕ). unwrap_or o (length s)) q) in
+    let h : n ≡ m = go m (length s) (ltb m (length s)) refl w (up_to-le x s) in
+    (h, omega (arith, h, up_to-le x s))
+  where
+    go : (m k : ℕ) (b : Bool) → ltb m k ≡ b → n ≡ unwrap_or (cond b (Some m) None) k → m ≤ k → n ≡ m
+    go m k true t w u = w
+    go m k false t w u = omega (arith, w, ltb-false m k t)
 
 -- something is cut
 pub up_to-cut : (x : ℕ) (s : List ℕ) → length (up_to x s) < length s → s ≡ up_to x s ++ (x ∷ drop (length (up_to x s) + 1) s)
@@ -163,22 +186,24 @@ module _ (x : ℕ) (a b : List ℕ) where
   pub cut-behind : drop (length a + 1) (a ++ (x ∷ b)) ≡ b
   cut-behind = drop-append-add a (x ∷ b) 1
 
--- an element that passes, one that does not, and the end
+-- an element that passes, and the end
 pub all_more : (f : ℕ → Bool) (s : List ℕ) (i : ℕ) → i < length s → f (get_or s i 0) ≡ true → all f (drop (i + 1) s) ≡ all f (drop i s)
 unfolding all
 all_more f s i h e = sym (rw (add-one, drop-cons s i 0 h, e))
-
-pub all-not : (f : ℕ → Bool) (s : List ℕ) (i : ℕ) → i < length s → f (get_or s i 0) ≡ false → false ≡ all f (drop i s)
-unfolding all
-all-not f s i h e = sym (rw (drop-cons s i 0 h, e))
 
 pub all_end : (f : ℕ → Bool) (s : List ℕ) (i : ℕ) → length s ≤ i → true ≡ all f (drop i s)
 unfolding all
 all_end f s i h = sym (ap (all f) (drop_of_length-le s h))
 
-pub name-byte : (c : ℕ) → 33 ≤ c → c ≤ 126 → (c ≡ 35 → ⊥) → (c ≡ 47 → ⊥) → (c ≡ 92 → ⊥) → not (eqb c 58) ≡ is_name_byte c
-unfolding is_name_byte
-name-byte c a b d e f = simp (le-leb 33 c a, le-leb c 126 b, ne_eqb c 35 d, ne_eqb c 47 e, ne_eqb c 92 f)
+-- what `all` answers
+pub all-list_all : (f : ℕ → Bool) (s : List ℕ) → list_all f s ≡ all f s
+unfolding all
+all-list_all f [] = refl
+all-list_all f (x ∷ s) = rw (all-list_all f s)
+
+pub name-is : (s : List ℕ) (b : Bool) → 1 ≤ length s → length s ≤ 64 → b ≡ list_all is_name_byte s → b ≡ is_name s
+unfolding is_name
+name-is s b h g e = simp (le-leb 1 (length s) h, le-leb (length s) 64 g) (e ∙ all-list_all is_name_byte s)
 
 pub all_append : (f : ℕ → Bool) (a b : List ℕ) → all f a ≡ true → all f b ≡ true → all f (a ++ b) ≡ true
 unfolding all

@@ -1,8 +1,8 @@
 -- Bytes laid into a buffer that the caller lends, and what a writer answers.
-use Rattle.std.specs.Prelude.{ℕ, ◌+◌, Bool, List, [], ◌++◌, length, take, drop, leb, ltb}
+use Rattle.fields.specs.declared.WriteError.TheVariants.{Formless, Small}
+use Rattle.fields.specs.declared.WriteError.{WriteError}
+use Rattle.std.specs.Prelude.{ℕ, ◌+◌, Bool, List, [], ◌++◌, length, take, drop, leb, ltb, Err, Ok, Result}
 use Rattle.fields.specs.Pick.{pick}
-use Rattle.fields.specs.declared.Written.{Written}
-use Rattle.fields.specs.declared.Written.TheVariants.{Bytes, Small, Formless}
 
 -- d with bs in the place of its bytes from index at on
 unfoldable pub over : ℕ → List ℕ → List ℕ → List ℕ
@@ -37,24 +37,24 @@ bytes_in (bytes bs) = bs
 abbrev pub form_if : Bool → List ℕ → Form
 form_if b bs = pick b (bytes bs) formless
 
-abbrev pub answer_of : Form → Written
-answer_of formless = Formless
-answer_of (bytes bs) = Bytes (length bs)
+abbrev pub answer_of : Form → Result ℕ WriteError
+answer_of formless = (Err Formless)
+answer_of (bytes bs) = Ok (length bs)
 
 abbrev pub buffer_of : Form → List ℕ → List ℕ
 buffer_of formless d = d
 buffer_of (bytes bs) d = over 0 bs d
 
 -- what a writer answers that is lent the buffer d; a buffer under `least` bytes is refused first
-unfoldable pub written_of : ℕ → Form → List ℕ → Written
-written_of least f d = pick (ltb (length d) least) Small (answer_of f)
+unfoldable pub written_of : ℕ → Form → List ℕ → Result ℕ WriteError
+written_of least f d = pick (ltb (length d) least) (Err Small) (answer_of f)
 
 -- the buffer after it: the bytes and behind them what was there; a refusal leaves all as it was
 unfoldable pub left_of : ℕ → Form → List ℕ → List ℕ
 left_of least f d = pick (ltb (length d) least) d (buffer_of f d)
 
 -- document 01's number for each answer: 20 reply buffer small, 22 cannot be written
-unfoldable pub written_number : Written → ℕ
-written_number (Bytes n) = 0
-written_number Small = 20
-written_number Formless = 22
+unfoldable pub written_number : Result ℕ WriteError → ℕ
+written_number (Ok n) = 0
+written_number (Err Small) = 20
+written_number (Err Formless) = 22

@@ -1,13 +1,11 @@
 -- Stamps. (Document 01: the DOS stamp, date times 65,536 plus time.)
-use Rattle.std.specs.Prelude.{Bool, true, false, leb}
-use Rattle.fields.specs.declared.Stamp.{Stamp}
-use Rattle.fields.specs.declared.Stamp.TheVariants.{Present, Absent}
+use Rattle.std.specs.Prelude.{Bool, true, false, leb, None, Option, Some, ℕ}
 
-abbrev pub is_present : Stamp → Bool
-is_present (Present v) = true
-is_present Absent = false
+abbrev pub is_present : Option ℕ → Bool
+is_present (Some v) = true
+is_present None = false
 
 -- a stamp has 32 bits
-abbrev pub stamp_fits : Stamp → Bool
-stamp_fits (Present v) = leb v 0xFFFFFFFF
-stamp_fits Absent = true
+abbrev pub stamp_fits : Option ℕ → Bool
+stamp_fits (Some v) = leb v 0xFFFFFFFF
+stamp_fits None = true

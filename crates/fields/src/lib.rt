@@ -7,10 +7,9 @@ ghost use Rattle.fields.specs.Lists.{part as part_of, bytes_at, up_to};
 pub mod buffers;
 pub mod names;
 
-// What a writer answers: how many bytes it wrote, or why it wrote none.
-#[derive(Clone, Copy)]
-pub enum Written {
-    Bytes(usize),
+// Why a writer wrote none; one that writes answers how many bytes it wrote.
+#[derive(Clone, Copy, PartialEq, Eq, Debug)]
+pub enum WriteError {
     // The buffer is too small (20).
     Small,
     // There is no form for it (22).
@@ -18,22 +17,14 @@ pub enum Written {
 }
 
 // A stretch of bytes: where it starts and how many there are.
-#[derive(Clone, Copy)]
+#[derive(Clone, Copy, PartialEq, Eq, Debug)]
 pub struct Place {
     pub start: usize,
     pub len: usize,
 }
 
-// A file's date and time, where a header, a line or a record carries it.
-#[derive(Clone, Copy)]
-pub enum Stamp {
-    // The DOS date times 65,536 plus the time.
-    Present(u32),
-    Absent,
-}
-
 // What is wrong with a header, a line or an OK. (Change request 2026-02.)
-#[derive(Clone, Copy)]
+#[derive(Clone, Copy, PartialEq, Eq, Debug)]
 pub enum Flaw {
     // 71: no closing byte behind the name.
     NameOpen,
@@ -52,13 +43,13 @@ pub enum Flaw {
 }
 
 // What is wrong, and where: the offset of the first offending byte, in the data of a header or in the frame; the length where they simply end.
-#[derive(Clone, Copy)]
+#[derive(Clone, Copy, PartialEq, Eq, Debug)]
 pub struct Fault {
     pub flaw: Flaw,
     pub offset: usize,
 }
 
-// The limits of document 01.
+// The limits of document 01. A name for them alone: nothing makes one.
 #[derive(Clone, Copy)]
 pub struct Limits {}
 
@@ -81,42 +72,27 @@ impl Limits {
 pub fn byte_at(s: &[u8], i: usize) -> u8
     ensures { result ≡ get_or s.now i 0 }
 {
-    if i < s.len() { s[i] } else { 0 }
+    s.get(i).copied().unwrap_or(0)
 }
 
 // Up to count bytes of s from index from on: as many as there are.
 pub fn part(s: &[u8], from: usize, count: usize) -> &[u8]
     ensures { result.now ≡ part_of from count s.now }
 {
-    if s.len() < from {
-        return &s[..0];
-    }
-    if s.len() - from < count {
-        return &s[from..];
-    }
-    let end = from + count;
-    &s[from..end]
+    let rest = s.get(from..).unwrap_or(&[]);
+    &rest[..count.min(rest.len())]
 }
 
 // The bytes of s at a place: as many as there are.
 pub fn bytes_at(s: &[u8], place: Place) -> &[u8]
     ensures { result.now ≡ bytes_at s.now place }
 {
-    let start = place.start;
-    let len = place.len;
-    part(s, start, len)
+    part(s, place.start, place.len)
 }
 
 // Where the first x stands in s; the length where there is none.
 pub fn find(s: &[u8], x: u8) -> usize
     ensures { (result ≡ length (up_to x s.now)) × (result ≤ length s.now) }
 {
-    let mut i = 0;
-    while i < s.len() {
-        if s[i] == x {
-            return i;
-        }
-        i += 1;
-    }
-    i
+    s.iter().position(|&c| c == x).unwrap_or(s.len())
 }

@@ -1,19 +1,53 @@
 -- Each element, from what the calls that lay its parts gave. Assumes nothing.
-use mathlib.Core.Path.{◌≡◌, refl, ap}
-use mathlib.Core.Bool.{Bool}
+use mathlib.Core.Path.{◌≡◌, refl, sym, ap}
+use mathlib.Core.Bool.{Bool, true, false}
 use mathlib.Core.List.{List, [], ◌∷◌, ◌++◌, append_assoc}
-use Prim.Native.Nat.{ℕ, ◌≤◌}
+use Prim.Native.Nat.{ℕ, ◌+◌, ◌≤◌}
 use native.Mathlib.Omega.{arith}
 use lib.ListN.{length, length-append}
-use Rattle.fields.specs.Buffer.{over}
-use Rattle.fields.proofs.Buffer.{Laid, So, begin, lay, grown-is}
+use Rattle.fields.specs.Buffer.{over, appended, appended_end}
+use Rattle.fields.specs.Name.{is_name}
+use Rattle.fields.specs.Pick.{pick}
+use Rattle.fields.specs.declared.WriteError.TheVariants.{Small, Formless}
+use Rattle.std.specs.Prelude.{Ok, Err, is_ok}
+use lib.Dec.{ltb}
+use borrow.Author.Tests.{ltb-false}
+use Rattle.fields.proofs.Lists.{never, name-length}
+use Rattle.fields.proofs.Buffer.{Laid, So, begin, lay, grown-is, count_fits, placed-fits, append-none}
 use Rattle.numbers.specs.Writing.{decimal, hex}
 use Rattle.numbers.proofs.RoundTrip.{decimal-length}
 use Rattle.numbers.proofs.numerals.Writing.{hex-length}
-use Rattle.lines.specs.Frame.{line_mark, ok_mark, no_mark}
-use Rattle.lines.specs.Element.{resume_mark, line_bytes, kept_bytes, no_bytes}
+use Rattle.lines.specs.Frame.{line_mark, ok_mark}
+use Rattle.lines.specs.Element.{resume_mark, line_bytes, kept_bytes}
 use Rattle.lines.proofs.Limits.{mark-short}
-use Rattle.line_writer.specs.Starts.{line_size, ok_with}
+use Rattle.line_writer.specs.Starts.{line_size}
+
+-- what fits is laid down
+pub whole_count : (bs d : List ℕ) → length bs ≤ length d → appended_end 0 bs d ≡ length bs
+whole_count bs d h = count_fits bs d h
+
+pub whole_bytes : (bs d : List ℕ) → length bs ≤ length d → appended 0 bs d ≡ over 0 bs d
+whole_bytes bs d h = placed-fits bs d h
+
+-- nothing laid down
+pub none_end : (at : ℕ) (d : List ℕ) → appended_end at [] d ≡ at
+none_end at d = sym (append-none at d).0
+
+pub none_bytes : (at : ℕ) (d : List ℕ) → appended at [] d ≡ d
+none_bytes at d = sym (append-none at d).1
+
+pub name_fits : (name : List ℕ) → is_name name ≡ true → length name ≤ 64
+name_fits name h = (name-length name h).1
+
+-- what `check` lets pass
+pub accepted : (d : List ℕ) (b : Bool) {u : Unit {0}} → pick (ltb (length d) 259) (Err Small) (pick b (Ok tt) (Err Formless)) ≡ Ok u
+    → (259 ≤ length d) × (b ≡ true)
+accepted d b {u} e = go (ltb (length d) 259) refl b e
+  where
+    go : (t : Bool) → ltb (length d) 259 ≡ t → (b : Bool) → pick t (Err Small) (pick b (Ok tt) (Err Formless)) ≡ Ok u → (259 ≤ length d) × (b ≡ true)
+    go true p b e = never (ap is_ok e)
+    go false p true e = (ltb-false _ _ p, refl)
+    go false p false e = never (ap is_ok e)
 
 -- a number and the byte behind it
 size-short : (n x : ℕ) → n ≤ 99999999 → length (decimal n ++ (x ∷ [])) ≤ 9
@@ -28,10 +62,6 @@ join : (size crc stamp mark name : List ℕ)
 join size crc stamp mark name = simp append_assoc
 
 module _ (d : List ℕ) (room : 259 ≤ length d) where
-  -- bytes that are always the same
-  pub put_whole : (bs : List ℕ) {r : ℕ} {e : List ℕ} → length bs ≤ 259 → Laid 0 bs d r e → (r ≡ length bs) × (e ≡ over 0 bs d)
-  put_whole bs {r} {e} h l = let s = lay (begin d) 259 bs e r h (omega arith) l in grown-is bs s.far refl
-
   pub put-size : (size end : ℕ) {a r : ℕ} {e f : List ℕ} → size ≤ 99999999 → Laid 0 line_mark d a e → Laid a (decimal size ++ (end ∷ [])) e r f
       → (r ≡ length (line_size (decimal size) end)) × (f ≡ over 0 (line_size (decimal size) end) d)
   put-size size end {a} {r} {e} {f} h l1 l2 =
@@ -61,30 +91,21 @@ module _ (d : List ℕ) (room : 259 ≤ length d) where
       grown-is (line_bytes (decimal size) (decimal crc) (hex 8 stamp) resumable name) s9.far
       (ap (λ (l : List ℕ). line_mark ++ l) (join (decimal size) (decimal crc) (hex 8 stamp) (resume_mark resumable) name))
 
-  pub put-ok : (name rest : List ℕ) {a b r : ℕ} {e f g : List ℕ} → length name ≤ 64 → length rest ≤ 2
-      → Laid 0 ok_mark d a e → Laid a name e b f → Laid b rest f r g → (r ≡ length (ok_with name rest)) × (g ≡ over 0 (ok_with name rest) d)
-  put-ok name rest {a} {b} {r} {e} {f} {g} h k l1 l2 l3 =
-      let s1 = lay (begin d) 4 ok_mark e a (omega arith) (omega arith) l1 in
-      let s2 = lay s1 64 name f b h (omega arith) l2 in
-      let s3 = lay s2 2 rest g r k (omega arith) l3 in
-      grown-is (ok_with name rest) s3.far refl
+  pub put_text : (mark text end : List ℕ) {a b r : ℕ} {e f g : List ℕ} → length mark + (length text + length end) ≤ 259
+      → Laid 0 mark d a e → Laid a text e b f → Laid b end f r g → (r ≡ length (mark ++ (text ++ end))) × (g ≡ over 0 (mark ++ (text ++ end)) d)
+  put_text mark text end {a} {b} {r} {e} {f} {g} h l1 l2 l3 =
+      let s1 = lay (begin d) (length mark) mark e a (omega arith) (omega arith) l1 in
+      let s2 = lay s1 (length text) text f b (omega arith) (omega arith) l2 in
+      let s3 = lay s2 (length end) end g r (omega arith) (omega arith) l3 in
+      grown-is (mark ++ (text ++ end)) s3.far (append_assoc mark text end)
 
   pub put-kept : (name : List ℕ) (kept crc : ℕ) {a b r : ℕ} {e f g : List ℕ} → length name ≤ 64 → kept ≤ 99999999 → crc ≤ 65535
-      → (a ≡ length (ok_with name (35 ∷ 36 ∷ []))) × (e ≡ over 0 (ok_with name (35 ∷ 36 ∷ [])) d)
+      → (a ≡ length (ok_mark ++ (name ++ (35 ∷ 36 ∷ [])))) × (e ≡ over 0 (ok_mark ++ (name ++ (35 ∷ 36 ∷ []))) d)
       → Laid a (decimal kept ++ (35 ∷ [])) e b f → Laid b (decimal crc ++ (13 ∷ [])) f r g
       → (r ≡ length (kept_bytes name (decimal kept) (decimal crc))) × (g ≡ over 0 (kept_bytes name (decimal kept) (decimal crc)) d)
   unfolding kept_bytes
   put-kept name kept crc {a} {b} {r} {e} {f} {g} n h q l1 l2 l3 =
-      let s1 : So 70 (ok_with name (35 ∷ 36 ∷ [])) d e a = record { far = record { bytes = l1.1; count = l1.0 }; most = simp length-append (omega arith) } in
+      let s1 : So 70 (ok_mark ++ (name ++ (35 ∷ 36 ∷ []))) d e a = record { far = record { bytes = l1.1; count = l1.0 }; most = simp length-append (omega arith) } in
       let s2 = lay s1 9 (decimal kept ++ (35 ∷ [])) f b (size-short kept 35 h) (omega arith) l2 in
       let s3 = lay s2 6 (decimal crc ++ (13 ∷ [])) g r (crc-short crc 13 q) (omega arith) l3 in
       grown-is (kept_bytes name (decimal kept) (decimal crc)) s3.far (simp append_assoc)
-
-  pub put-no : (text : List ℕ) {a b r : ℕ} {e f g : List ℕ} → length text ≤ 80 → Laid 0 no_mark d a e → Laid a text e b f → Laid b (13 ∷ []) f r g
-      → (r ≡ length (no_bytes text)) × (g ≡ over 0 (no_bytes text) d)
-  unfolding no_bytes
-  put-no text {a} {b} {r} {e} {f} {g} h l1 l2 l3 =
-      let s1 = lay (begin d) 4 no_mark e a (omega arith) (omega arith) l1 in
-      let s2 = lay s1 80 text f b h (omega arith) l2 in
-      let s3 = lay s2 1 (13 ∷ []) g r (omega arith) (omega arith) l3 in
-      grown-is (no_bytes text) s3.far (append_assoc no_mark text (13 ∷ []))

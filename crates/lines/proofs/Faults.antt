@@ -1,4 +1,6 @@
 -- A frame that starts as a line or as an OK is one exactly where no fault is found in it. Assumes nothing.
+use Rattle.fields.specs.declared.Fault.{Fault}
+use Rattle.std.specs.Prelude.{Some, None, Option}
 use mathlib.Core.Path.{◌≡◌, refl, sym, ap, ◌∙◌}
 use mathlib.Core.Bool.{Bool, true, false}
 use mathlib.Core.List.{List, [], ◌∷◌, ◌++◌}
@@ -10,10 +12,7 @@ use Rattle.fields.specs.Lists.{all}
 use Rattle.fields.specs.Name.{is_name_byte, is_name}
 use Rattle.fields.specs.declared.Flaw.TheVariants.{SizeOpen, Other}
 use Rattle.fields.proofs.Lists.{never}
-use Rattle.numbers.specs.declared.Number.TheVariants.{Value}
 use Rattle.numbers.specs.Reading.{read_size, read_crc}
-use Rattle.faults.specs.declared.Check.{Check}
-use Rattle.faults.specs.declared.Check.TheVariants.{Sound, Faulty}
 use Rattle.faults.specs.declared.Stage.TheVariants.{LineSize, LineBar, LineCrc, LineDollar, LineStamp, LineMark, LineName, OkName, OkDollar, OkKept, OkCrc, End}
 use Rattle.faults.specs.Faults.{is_hex, step_of, end_of, check_line, check_ok, is_sound}
 use Rattle.faults.proofs.Values.{name-is, digits-size, digits-stamp}
@@ -29,7 +28,7 @@ use Rattle.lines.proofs.Reading.{basic-reads, line_reads, ok-reads, name-reads, 
 -- ---- What is read is sound
 
 module _ (b : List ℕ) where
-  read-sound : (f : Frame) → Seen b f → (is_line f ≡ true → check_line b ≡ Sound) × (is_ok f ≡ true → check_ok b ≡ Sound)
+  read-sound : (f : Frame) → Seen b f → (is_line f ≡ true → check_line b ≡ None) × (is_ok f ≡ true → check_ok b ≡ None)
   unfolding check_line check_ok basic_bytes line_bytes ok_bytes kept_bytes step_of end_of
   read-sound _ (is_basic size n e hs) =
       (λ _. rw e (moved (LineSize 0) (size ++ (13 ∷ [])) 0 5 (line-size-sound 13 End size [] n refl refl hs end-sound)), λ h. never h)
@@ -57,9 +56,9 @@ module _ (b : List ℕ) where
 put : {s r t : List ℕ} (n : List ℕ) → s ≡ n ++ r → r ≡ t → s ≡ n ++ t
 put n e g = e ∙ ap (λ (l : List ℕ). n ++ l) g
 
-module _ (size : List ℕ) (n : ℕ) (hs : read_size size ≡ Value n) where
+module _ (size : List ℕ) (n : ℕ) (hs : read_size size ≡ Some n) where
   -- from the stamp on
-  stamp-read : (crc : List ℕ) (k : ℕ) → read_crc crc ≡ Value k → (s : List ℕ) → SoundFrom (LineStamp 0) s
+  stamp-read : (crc : List ℕ) (k : ℕ) → read_crc crc ≡ Some k → (s : List ℕ) → SoundFrom (LineStamp 0) s
       → is_line (frame_of (line_mark ++ (size ++ (35 ∷ 124 ∷ (crc ++ (35 ∷ 36 ∷ s)))))) ≡ true
   unfolding step_of end_of line_bytes
   stamp-read crc k hc s h =
@@ -108,7 +107,7 @@ line_read s h =
 
 module _ (name : List ℕ) (hn : is_name name ≡ true) where
   -- from the CRC on
-  crc-read : (kept : List ℕ) (n : ℕ) → read_size kept ≡ Value n → (s : List ℕ) → SoundFrom (OkCrc 0 0) s
+  crc-read : (kept : List ℕ) (n : ℕ) → read_size kept ≡ Some n → (s : List ℕ) → SoundFrom (OkCrc 0 0) s
       → is_ok (frame_of (ok_mark ++ (name ++ (35 ∷ 36 ∷ (kept ++ (35 ∷ s)))))) ≡ true
   unfolding step_of end_of kept_bytes
   crc-read kept n hs s h =
@@ -146,10 +145,10 @@ ok_read s h =
 
 -- ---- Both together
 
-agree : (a : Bool) (c : Check) → (a ≡ true → c ≡ Sound) → (c ≡ Sound → a ≡ true) → a ≡ is_sound c
+agree : (a : Bool) (c : Option Fault) → (a ≡ true → c ≡ None) → (c ≡ None → a ≡ true) → a ≡ is_sound c
 agree true c f g = sym (ap is_sound (f refl))
-agree false Sound f g = g refl
-agree false (Faulty w) f g = refl
+agree false None f g = g refl
+agree false (Some w) f g = refl
 
 -- THE LAW: a frame that starts `#BIN#` is a line exactly where no fault is found
 pub agrees-line : (b : List ℕ) → starts line_mark b ≡ true → is_line (frame_of b) ≡ is_sound (check_line b)

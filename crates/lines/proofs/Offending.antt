@@ -1,4 +1,5 @@
 -- A malformed line and a malformed OK carry what is wrong, and where. (Change request 2026-02.) Assumes nothing.
+use Rattle.std.specs.Prelude.{None, Option, Some}
 use mathlib.Core.Path.{◌≡◌, refl, sym, ap, subst, ◌∙◌}
 use mathlib.Core.Bool.{Bool, true, false}
 use mathlib.Core.List.{List, [], ◌∷◌, ◌++◌}
@@ -10,8 +11,6 @@ use Rattle.fields.specs.declared.Fault.{Fault}
 use Rattle.fields.specs.declared.Flaw.TheVariants.{SizeOpen, Other as OtherFlaw}
 use Rattle.fields.specs.Lists.{same}
 use Rattle.fields.proofs.Lists.{never}
-use Rattle.faults.specs.declared.Check.{Check}
-use Rattle.faults.specs.declared.Check.TheVariants.{Sound, Faulty}
 use Rattle.faults.specs.Faults.{size_part, step_of, end_of, check_from, check_line, check_ok, line_fault, ok_fault, fault_in, is_sound}
 use Rattle.faults.specs.Search.{line_faults}
 use Rattle.faults.specs.Place.{FirstOffending}
@@ -57,12 +56,12 @@ told b _ (is_display s) = tt
 told b _ is_other = tt
 
 -- what is not well-formed has a fault
-faulty : (c : Check) (f : Fault) → is_sound c ≡ false → fault_in c ≡ f → c ≡ Faulty f
-faulty Sound f n e = never (sym n)
-faulty (Faulty g) f n e = ap Faulty e
+faulty : (c : Option Fault) (f : Fault) → is_sound c ≡ false → fault_in c ≡ f → c ≡ Some f
+faulty None f n e = never (sym n)
+faulty (Some g) f n e = ap Some e
 
 -- b has its mark, and behind a mark the reading and the table agree
-module _ (mark b : List ℕ) (s : starts mark b ≡ true) (good : List ℕ → Bool) (check : List ℕ → Check)
+module _ (mark b : List ℕ) (s : starts mark b ≡ true) (good : List ℕ → Bool) (check : List ℕ → Option Fault)
     (agrees : (x : List ℕ) → starts mark x ≡ true → good x ≡ is_sound (check x)) (f : Fault) where
   long : length mark ≤ length b
   long = rw (starts_is mark b s, length-append) (omega arith)
@@ -73,7 +72,7 @@ module _ (mark b : List ℕ) (s : starts mark b ≡ true) (good : List ℕ → B
   front-starts m t h =
       ap (same mark) (take-append-le (length mark) (take m b) t (rw length-take (omega (arith, long))) ∙ take-take (length mark) m b h) ∙ s
 
-  found-by : good b ≡ false → fault_in (check b) ≡ f → check b ≡ Faulty f
+  found-by : good b ≡ false → fault_in (check b) ≡ f → check b ≡ Some f
   found-by n e = faulty (check b) f (sym (agrees b s) ∙ n) e
 
   placed : length mark ≤ f.offset → (length mark ≤ length b → table.Place check b f.offset) → FirstOffending good b f.offset
@@ -91,7 +90,7 @@ module _ (b : List ℕ) (f : Fault) (e : frame_of b ≡ MalformedLine f) where
   line-told : (starts line_mark b ≡ true) × (line_fault b ≡ f)
   line-told = subst (Told b) e (told b (frame_of b) (seen b))
 
-  found : check_line b ≡ Faulty f
+  found : check_line b ≡ Some f
   found = found-by line_mark b line-told.0 reads_line check_line agrees-line f (ap is_line e) line-told.1
 
   -- THE LAW: the place is that of the first offending byte in the frame
@@ -103,14 +102,14 @@ module _ (b : List ℕ) (f : Fault) (e : frame_of b ≡ MalformedLine f) where
   short-line = table.short-line b f found
 
   -- THE LAW: number and place are those of the fault that counts, each looked for by itself
-  pub least : line_faults 5 (drop 5 b) ≡ Faulty f
+  pub least : line_faults 5 (drop 5 b) ≡ Some f
   least = sym (least-line b) ∙ found
 
 module _ (b : List ℕ) (f : Fault) (e : frame_of b ≡ MalformedOK f) where
   ok-told : (starts ok_mark b ≡ true) × (ok_fault b ≡ f)
   ok-told = subst (Told b) e (told b (frame_of b) (seen b))
 
-  ok-found : check_ok b ≡ Faulty f
+  ok-found : check_ok b ≡ Some f
   ok-found = found-by ok_mark b ok-told.0 reads_ok check_ok agrees-ok f (ap is_ok e) ok-told.1
 
   -- THE LAW: the same of an OK

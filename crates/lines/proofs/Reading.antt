@@ -1,4 +1,5 @@
 -- What the bytes of each element read as, and that every frame which reads as an element has its bytes. Assumes nothing.
+use Rattle.std.specs.Prelude.{None, Option, Some, ℕ}
 use mathlib.Core.Path.{◌≡◌, refl, sym, ap, ◌∙◌}
 use mathlib.Core.Bool.{Bool, true, false, ◌&&◌}
 use mathlib.Core.List.{List, [], ◌∷◌, ◌++◌, append-nil, append_assoc}
@@ -9,16 +10,12 @@ use lib.ListN.{length, drop, length-append}
 use lib.Seq.{take-append_seam}
 use lib.Dec.{eqb}
 use borrow.Author.Tests.{ne_eqb, eqb-true}
-use Rattle.numbers.specs.declared.Number.{Number}
-use Rattle.numbers.specs.declared.Number.TheVariants.{Value, Malformed}
 use Rattle.fields.specs.Lists.{bytes_at, up_to, same}
 use Rattle.fields.specs.Name.{is_name_byte, is_name}
 use Rattle.numbers.specs.Reading.{radix, hex_digit, read_size, read_crc, read_hex}
 use Rattle.fields.proofs.Lists.{either, same-eq, free_snoc, cut-before, name-length, name_free}
 use Rattle.numbers.proofs.Reading.{value-without, decimal-without, crc-form, hex-form}
 use Rattle.faults.specs.Faults.{line_fault, ok_fault}
-use Rattle.lines.specs.declared.FrameRead.{FrameRead}
-use Rattle.lines.specs.declared.FrameRead.TheVariants.{Good, Bad}
 use Rattle.lines.specs.declared.Frame.{Frame}
 use Rattle.lines.specs.declared.Frame.TheVariants.{Basic, Extended, MalformedLine, OK, OKName, OKKept, MalformedOK, NO, Stop, Display, Other}
 use Rattle.lines.specs.Frame.{line_mark, ok_mark, no_mark, stop_frame, display_mark, starts, ends, body, has_hash, behind, marked, line_name, has_resume, stamp_digits, stamp_by, line_stamp, crc_by, line_crc, size_by, basic_by, line_read, line_of, ok_crc_by, ok_kept_by, ok_kept, ok_name, ok_read, ok_of, line_by, ok_by, line_frame, ok_frame, text_of, shown_of, frame_of}
@@ -55,13 +52,13 @@ ok-between t = ok-first (t ++ (13 ∷ [])) ∙ rw (ends-back (ok_mark ++ t), bod
 
 -- ---- Numbers and names have no `#`
 
-size-free : (s : List ℕ) (n : ℕ) → read_size s ≡ Value n → up_to 35 s ≡ s
+size-free : (s : List ℕ) (n : ℕ) → read_size s ≡ Some n → up_to 35 s ≡ s
 size-free s n h = decimal-without 8 35 n s (inl (omega arith)) h
 
-crc-free : (s : List ℕ) (k : ℕ) → read_crc s ≡ Value k → up_to 35 s ≡ s
+crc-free : (s : List ℕ) (k : ℕ) → read_crc s ≡ Some k → up_to 35 s ≡ s
 crc-free s k h = decimal-without 5 35 k s (inl (omega arith)) (crc-form k s h).1
 
-stamp-free : (s : List ℕ) (v : ℕ) (r : Bool) → read_hex s ≡ Value v → up_to 35 (s ++ resume_mark r) ≡ s ++ resume_mark r
+stamp-free : (s : List ℕ) (v : ℕ) (r : Bool) → read_hex s ≡ Some v → up_to 35 (s ++ resume_mark r) ≡ s ++ resume_mark r
 unfolding radix hex_digit
 stamp-free s v r h = go r
   where
@@ -78,7 +75,7 @@ hash-free-name s h = name_free 35 s refl h
 
 -- ---- A basic line
 
-module _ (size : List ℕ) (n : ℕ) (hs : read_size size ≡ Value n) where
+module _ (size : List ℕ) (n : ℕ) (hs : read_size size ≡ Some n) where
   pub basic-reads : frame_of (basic_bytes size) ≡ Basic n
   unfolding basic_bytes line_read
   basic-reads = line-between size ∙ rw (hash-no size (size-free size n hs), hs)
@@ -98,8 +95,8 @@ pub line-is : (size crc stamp : List ℕ) (r : Bool) (name : List ℕ)
 unfolding line_bytes
 line-is size crc stamp r name = simp append_assoc
 
-module _ (size crc stamp name : List ℕ) (n k v : ℕ) (r : Bool) (hs : read_size size ≡ Value n) (hc : read_crc crc ≡ Value k)
-    (hv : read_hex stamp ≡ Value v) (hn : is_name name ≡ true) where
+module _ (size crc stamp name : List ℕ) (n k v : ℕ) (r : Bool) (hs : read_size size ≡ Some n) (hc : read_crc crc ≡ Some k)
+    (hv : read_hex stamp ≡ Some v) (hn : is_name name ≡ true) where
   field : List ℕ
   field = stamp ++ resume_mark r
 
@@ -188,7 +185,7 @@ module _ (name kept crc : List ℕ) where
   pub kept-body : body 4 (kept_bytes name kept crc) ≡ kept_fields
   kept-body = rw kept-is (body_back ok_mark kept_fields 4 refl)
 
-  module _ (n k : ℕ) (hn : is_name name ≡ true) (hs : read_size kept ≡ Value n) (hc : read_crc crc ≡ Value k) where
+  module _ (n k : ℕ) (hn : is_name name ≡ true) (hs : read_size kept ≡ Some n) (hc : read_crc crc ≡ Some k) where
     pub kept-reads : frame_of (kept_bytes name kept crc) ≡ OKKept (record { name = record { start = 4; len = length name }; kept = n; crc = k })
     unfolding ok_read ok_kept
     kept-reads =
@@ -240,14 +237,14 @@ stop-reads = refl
 
 -- what is known of the frame b that reads as what follows
 pub data Seen (b : List ℕ) : Frame → Type 0 where
-  is_basic : (size : List ℕ) (n : ℕ) → b ≡ basic_bytes size → read_size size ≡ Value n → Seen b (Basic n)
+  is_basic : (size : List ℕ) (n : ℕ) → b ≡ basic_bytes size → read_size size ≡ Some n → Seen b (Basic n)
   is_extended : (size crc stamp name : List ℕ) (n k v : ℕ) (r : Bool) → b ≡ line_bytes size crc stamp r name
-      → read_size size ≡ Value n → read_crc crc ≡ Value k → read_hex stamp ≡ Value v → is_name name ≡ true
+      → read_size size ≡ Some n → read_crc crc ≡ Some k → read_hex stamp ≡ Some v → is_name name ≡ true
       → Seen b (Extended (record { size = n; crc = k; stamp = v; resumable = r; name = record { start = length b - 1 - length name; len = length name } }))
   is_malformed_line : starts line_mark b ≡ true → Seen b (MalformedLine (line_fault b))
   is_bare_ok : b ≡ ok_bytes [] → Seen b OK
   is_named : (name : List ℕ) → b ≡ ok_bytes name → is_name name ≡ true → Seen b (OKName (record { start = 4; len = length name }))
-  is_kept : (name digits crc : List ℕ) (n k : ℕ) → b ≡ kept_bytes name digits crc → is_name name ≡ true → read_size digits ≡ Value n → read_crc crc ≡ Value k
+  is_kept : (name digits crc : List ℕ) (n k : ℕ) → b ≡ kept_bytes name digits crc → is_name name ≡ true → read_size digits ≡ Some n → read_crc crc ≡ Some k
       → Seen b (OKKept (record { name = record { start = 4; len = length name }; kept = n; crc = k }))
   is_malformed_ok : starts ok_mark b ≡ true → Seen b (MalformedOK (ok_fault b))
   is_no : starts no_mark b ≡ true → Seen b (NO (text_of b))
@@ -262,13 +259,13 @@ line-whole size crc field name =
     ∙ sym (line-is size crc (stamp_digits field) (has_resume field) name)
 
 -- what is known where something well-formed stands behind the mark
-abbrev ReadAs : List ℕ → FrameRead → Type 0
-ReadAs b (Good f) = Seen b f
-ReadAs b Bad = Unit {0}
+abbrev ReadAs : List ℕ → Option Frame → Type 0
+ReadAs b (Some f) = Seen b f
+ReadAs b None = Unit {0}
 
 module _ (b : List ℕ) where
   name-seen : (size crc field t : List ℕ) (n k v : ℕ) → b ≡ line_mark ++ (line_fields size crc field t ++ (13 ∷ []))
-      → read_size size ≡ Value n → read_crc crc ≡ Value k → read_hex (stamp_digits field) ≡ Value v
+      → read_size size ≡ Some n → read_crc crc ≡ Some k → read_hex (stamp_digits field) ≡ Some v
       → ReadAs b (line_name (length b - 1) n k v (has_resume field) t)
   unfolding line_name
   name-seen size crc field t n k v e hs hc hv =
@@ -277,56 +274,56 @@ module _ (b : List ℕ) where
       (λ h. tt)
 
   stamp-seen : (size crc t : List ℕ) (n k : ℕ) → b ≡ line_mark ++ ((size ++ (35 ∷ (124 ∷ (crc ++ (35 ∷ t))))) ++ (13 ∷ []))
-      → read_size size ≡ Value n → read_crc crc ≡ Value k → ReadAs b (line_stamp (length b - 1) n k t)
+      → read_size size ≡ Some n → read_crc crc ≡ Some k → ReadAs b (line_stamp (length b - 1) n k t)
   unfolding line_stamp
   stamp-seen size crc t n k e hs hc =
       either (ReadAs b) (marked 36 t) _ _ (λ h. go (read_hex (stamp_digits (up_to 35 (drop 1 t)))) refl h) (λ h. tt)
     where
-      go : (x : Number) → read_hex (stamp_digits (up_to 35 (drop 1 t))) ≡ x → marked 36 t ≡ true
+      go : (x : Option ℕ) → read_hex (stamp_digits (up_to 35 (drop 1 t))) ≡ x → marked 36 t ≡ true
           → ReadAs b (stamp_by (length b - 1) n k x (has_resume (up_to 35 (drop 1 t))) (behind (drop 1 t)))
-      go (Value v) q h =
+      go (Some v) q h =
           name-seen size crc (up_to 35 (drop 1 t)) (behind (drop 1 t)) n k v
           (e ∙ ap (λ (u : List ℕ). line_mark ++ ((size ++ (35 ∷ (124 ∷ (crc ++ (35 ∷ u))))) ++ (13 ∷ []))) (marked-split 36 t h)) hs hc q
-      go Malformed q h = tt
+      go None q h = tt
 
-  crc-seen : (size t : List ℕ) (n : ℕ) → b ≡ line_mark ++ ((size ++ (35 ∷ t)) ++ (13 ∷ [])) → read_size size ≡ Value n → ReadAs b (line_crc (length b - 1) n t)
+  crc-seen : (size t : List ℕ) (n : ℕ) → b ≡ line_mark ++ ((size ++ (35 ∷ t)) ++ (13 ∷ [])) → read_size size ≡ Some n → ReadAs b (line_crc (length b - 1) n t)
   unfolding line_crc
   crc-seen size t n e hs =
       either (ReadAs b) (marked 124 t) _ _ (λ h. go (read_crc (up_to 35 (drop 1 t))) refl h) (λ h. tt)
     where
-      go : (x : Number) → read_crc (up_to 35 (drop 1 t)) ≡ x → marked 124 t ≡ true → ReadAs b (crc_by (length b - 1) n x (behind (drop 1 t)))
-      go (Value k) q h =
+      go : (x : Option ℕ) → read_crc (up_to 35 (drop 1 t)) ≡ x → marked 124 t ≡ true → ReadAs b (crc_by (length b - 1) n x (behind (drop 1 t)))
+      go (Some k) q h =
           stamp-seen size (up_to 35 (drop 1 t)) (behind (drop 1 t)) n k
           (e ∙ ap (λ (u : List ℕ). line_mark ++ ((size ++ (35 ∷ u)) ++ (13 ∷ []))) (marked-split 124 t h)) hs q
-      go Malformed q h = tt
+      go None q h = tt
 
   line-seen : (t : List ℕ) → b ≡ line_mark ++ (t ++ (13 ∷ [])) → ReadAs b (line_read (length b - 1) t)
   unfolding line_read basic_bytes
   line-seen t e = either (ReadAs b) (has_hash t) _ _ (λ h. long (read_size (up_to 35 t)) refl h) (λ h. short (read_size t) refl)
     where
-      long : (x : Number) → read_size (up_to 35 t) ≡ x → has_hash t ≡ true → ReadAs b (size_by (length b - 1) x (behind t))
-      long (Value n) q h =
+      long : (x : Option ℕ) → read_size (up_to 35 t) ≡ x → has_hash t ≡ true → ReadAs b (size_by (length b - 1) x (behind t))
+      long (Some n) q h =
           crc-seen (up_to 35 t) (behind t) n (e ∙ ap (λ (u : List ℕ). line_mark ++ (u ++ (13 ∷ []))) (hash-split t h)) q
-      long Malformed q h = tt
+      long None q h = tt
 
-      short : (x : Number) → read_size t ≡ x → ReadAs b (basic_by x)
-      short (Value n) q = is_basic t n e q
-      short Malformed q = tt
+      short : (x : Option ℕ) → read_size t ≡ x → ReadAs b (basic_by x)
+      short (Some n) q = is_basic t n e q
+      short None q = tt
 
   kept_seen : (name t : List ℕ) → b ≡ ok_mark ++ ((name ++ (35 ∷ t)) ++ (13 ∷ [])) → is_name name ≡ true → ReadAs b (ok_kept (length name) t)
   unfolding ok_kept
   kept_seen name t e hn =
       either (ReadAs b) (marked 36 t) _ _ (λ h. go (read_size (up_to 35 (drop 1 t))) refl h) (λ h. tt)
     where
-      last : (n : ℕ) → read_size (up_to 35 (drop 1 t)) ≡ Value n → marked 36 t ≡ true → (y : Number) → read_crc (behind (drop 1 t)) ≡ y → ReadAs b (ok_crc_by (length name) n y)
-      last n q h (Value k) p =
+      last : (n : ℕ) → read_size (up_to 35 (drop 1 t)) ≡ Some n → marked 36 t ≡ true → (y : Option ℕ) → read_crc (behind (drop 1 t)) ≡ y → ReadAs b (ok_crc_by (length name) n y)
+      last n q h (Some k) p =
           is_kept name (up_to 35 (drop 1 t)) (behind (drop 1 t)) n k
           (e ∙ ap (λ (u : List ℕ). ok_mark ++ ((name ++ (35 ∷ u)) ++ (13 ∷ []))) (marked-split 36 t h) ∙ sym (kept-is name (up_to 35 (drop 1 t)) (behind (drop 1 t)))) hn q p
-      last n q h Malformed p = tt
+      last n q h None p = tt
 
-      go : (x : Number) → read_size (up_to 35 (drop 1 t)) ≡ x → marked 36 t ≡ true → ReadAs b (ok_kept_by (length name) x (behind (drop 1 t)))
-      go (Value n) q h = last n q h (read_crc (behind (drop 1 t))) refl
-      go Malformed q h = tt
+      go : (x : Option ℕ) → read_size (up_to 35 (drop 1 t)) ≡ x → marked 36 t ≡ true → ReadAs b (ok_kept_by (length name) x (behind (drop 1 t)))
+      go (Some n) q h = last n q h (read_crc (behind (drop 1 t))) refl
+      go None q h = tt
 
   none_is : (t : List ℕ) → length t ≡ 0 → t ≡ []
   none_is [] h = refl
@@ -343,13 +340,13 @@ module _ (b : List ℕ) where
       (λ z. is_bare_ok (e ∙ ap (λ (u : List ℕ). ok_mark ++ (u ++ (13 ∷ []))) (none_is t (eqb-true (length t) 0 z))))
       (λ z. either (ReadAs b) (is_name t) _ _ (λ i. is_named t e i) (λ i. tt)))
 
-  line-by : starts line_mark b ≡ true → (x : FrameRead) → ReadAs b x → Seen b (line_by b x)
-  line-by m (Good f) s = s
-  line-by m Bad s = is_malformed_line m
+  line-by : starts line_mark b ≡ true → (x : Option Frame) → ReadAs b x → Seen b (line_by b x)
+  line-by m (Some f) s = s
+  line-by m None s = is_malformed_line m
 
-  ok-by : starts ok_mark b ≡ true → (x : FrameRead) → ReadAs b x → Seen b (ok_by b x)
-  ok-by m (Good f) s = s
-  ok-by m Bad s = is_malformed_ok m
+  ok-by : starts ok_mark b ≡ true → (x : Option Frame) → ReadAs b x → Seen b (ok_by b x)
+  ok-by m (Some f) s = s
+  ok-by m None s = is_malformed_ok m
 
   pub seen : Seen b (frame_of b)
   unfolding frame_of line_of ok_of ends

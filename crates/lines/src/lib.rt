@@ -11,7 +11,7 @@ pub mod line_reader;
 mod line_stamps;
 
 // An extended line.
-#[derive(Clone, Copy)]
+#[derive(Clone, Copy, PartialEq, Eq, Debug)]
 pub struct Line {
     pub size: u32,
     pub crc: u16,
@@ -23,7 +23,7 @@ pub struct Line {
 }
 
 // The third OK: what the receiver has kept, and its CRC.
-#[derive(Clone, Copy)]
+#[derive(Clone, Copy, PartialEq, Eq, Debug)]
 pub struct Kept {
     pub name: Place,
     pub kept: u32,
@@ -31,7 +31,7 @@ pub struct Kept {
 }
 
 // What a frame says.
-#[derive(Clone, Copy)]
+#[derive(Clone, Copy, PartialEq, Eq, Debug)]
 pub enum Frame {
     // A basic line: the size.
     Basic(u32),
@@ -52,30 +52,18 @@ pub enum Frame {
     Other,
 }
 
-// What stands behind `#BIN#` or `#OK#`, if it is well-formed.
-#[derive(Clone, Copy)]
-pub enum FrameRead {
-    Good(Frame),
-    Bad,
-}
-
-// Whether b starts with mark.
-fn starts(mark: &[u8], b: &[u8]) -> bool
-    ensures { result ≡ starts_of mark.now b.now }
-{
-    names::same(mark, fields::part(b, 0, mark.len()))
-}
-
 // Whether the whole frame is the stop frame.
+#[tactic(auto, using(crate::proofs::Steps::stop_is))]
 pub fn is_stop(b: &[u8]) -> bool
     ensures { result ≡ same_of stop_frame b.now }
 {
-    names::same(b"\r#ABORT#\r", b)
+    b == b"\r#ABORT#\r".as_slice()
 }
 
 // Whether the frame is for display.
+#[tactic(auto, using(crate::proofs::Steps::display_starts))]
 pub fn is_display(b: &[u8]) -> bool
     ensures { result ≡ starts_of display_mark b.now }
 {
-    starts(b"SP\\-", b)
+    b.starts_with(b"SP\\-")
 }

@@ -1,23 +1,15 @@
-// The stamp of a #BIN# line: its `?` and its digits.
+// The stamp of a #BIN# line: its digits and its `?`.
 ghost use Rattle.std.specs.Prelude.{◌≡◌};
 ghost use Rattle.lines.specs.Frame.{has_resume, stamp_digits};
 
-// Whether `?` stands behind a stamp's eight digits.
-pub fn has_resume(s: &[u8]) -> bool
-    ensures { result ≡ has_resume s.now }
+// The stamp without the `?`, and whether `?` stands behind its eight digits.
+#[tactic(auto, unfolding(crate::specs::Frame::has_resume, crate::specs::Frame::stamp_digits))]
+pub fn stamp_parts(s: &[u8]) -> (&[u8], bool)
+    ensures { (result.0.now ≡ stamp_digits s.now) × (result.1 ≡ has_resume s.now) }
 {
-    if s.len() == 9 {
-        return s[8] == b'?';
+    if s.len() == 9 && s[8] == b'?' {
+        (&s[..8], true)
+    } else {
+        (s, false)
     }
-    false
-}
-
-// The stamp without the `?`.
-pub fn stamp_digits(s: &[u8]) -> &[u8]
-    ensures { result.now ≡ stamp_digits s.now }
-{
-    if has_resume(s) {
-        return fields::part(s, 0, 8);
-    }
-    s
 }

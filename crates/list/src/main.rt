@@ -6,8 +6,6 @@
 // has no line `end`. A read or write that fails ends it with 1.
 #![tactic(auto)]
 
-ghost use Rattle.std.specs.Prelude.{◌≤◌, length};
-
 use fields::buffers;
 use listing::Lister;
 use std::fs::File;
@@ -15,31 +13,20 @@ use std::io::{Read, Write};
 use std::process::ExitCode;
 use std::{env, io};
 
-// The lister behind a chunk, and how many bytes of the buffer are the chunk's lines.
-#[derive(Clone, Copy)]
-struct Lines {
-    lister: Lister,
-    count: usize,
-}
-
-// Hands the chunk over step by step, and puts the line of each step behind the one before. A step takes at least one byte and its line has at
-// most 32, so there is room for all of them.
-fn list_chunk(lister: Lister, chunk: &[u8], out: &mut [u8]) -> Lines
-    ensures { result.count ≤ length out.new }
-{
+// Hands the chunk over step by step, and puts the line of each step behind the one before: the lister behind it, and the lines. A step takes
+// at least one byte and its line has at most 32, so there is room for all of them.
+fn list_chunk<'a>(lister: Lister, chunk: &[u8], out: &'a mut [u8]) -> (Lister, &'a [u8]) {
     let mut l = lister;
     let mut line = [0; 32];
-    let mut at = 0;
+    let mut rest = chunk;
     let mut count = 0;
-    while at < chunk.len() {
-        let got = l.step(&chunk[at..], &mut line);
-        let next = got.lister;
-        let written = got.written;
-        l = next;
-        at += got.taken;
-        count = buffers::append_bytes(out, count, &line[..written]);
+    while !rest.is_empty() {
+        let got = l.step(rest, &mut line);
+        l = got.lister;
+        rest = &rest[got.taken..];
+        count = buffers::append_bytes(out, count, &line[..got.written]);
     }
-    Lines { lister: l, count }
+    (l, &out[..count])
 }
 
 // Which end of the program failed, and why.
@@ -72,26 +59,23 @@ fn list_all<R: Read, W: Write>(input: &mut R, out: &mut W) -> Result<(), Failure
         if n == 0 {
             return write_end(out, l);
         }
-        let got = list_chunk(l, &buf[..n], &mut lines);
-        l = got.lister;
-        write(out, &lines[..got.count])?;
+        let (next, text) = list_chunk(l, &buf[..n], &mut lines);
+        l = next;
+        write(out, text)?;
     }
     Ok(())
 }
 
 // An error's words, without the number that std puts behind them.
 fn words_of(text: &str) -> &str {
-    match text.split_once(" (os error ") {
-        Some((words, _)) => words,
-        None => text,
-    }
+    text.split_once(" (os error ")
+        .map_or(text, |(words, _)| words)
 }
 
 // Says what failed, and why.
 fn fail(rt: &HostRuntime, what: &str, why: io::Error) -> io::Result<ExitCode> {
     let text = why.to_string(rt.alloc())?;
-    let words = words_of(text.as_str());
-    eprintln!(rt; "list: {what}: {words}")?;
+    eprintln!(rt; "list: {what}: {}", words_of(text.as_str()))?;
     Ok(ExitCode::FAILURE)
 }
 
@@ -104,7 +88,7 @@ fn list<R: Read>(rt: &HostRuntime, input: &mut R, name: &str) -> io::Result<Exit
 }
 
 fn list_file(rt: &HostRuntime, path: &str) -> io::Result<ExitCode> {
-    if path.is_empty() || 4095 < path.len() {
+    if !(1..=4095).contains(&path.len()) {
         eprintln!(rt; "list: a path has 1 to 4095 bytes")?;
         return Ok(ExitCode::SUCCESS);
     }

@@ -5,7 +5,7 @@ ghost use Rattle.std.specs.Prelude.{◌≡◌, ◌≤◌, length};
 ghost use Rattle.fields.specs.Buffer.{over};
 ghost use Rattle.packets.specs.Span.{size_of};
 ghost use Rattle.listing.specs.Text.{heading as heading_of};
-ghost use Rattle.listing.specs.Lister.{advanced, line_by, Stepped, new as new_of, step as step_of, end_text};
+ghost use Rattle.listing.specs.Lister.{line_by, Stepped, new as new_of, step as step_of, end_text};
 
 use packet_stream::Reader;
 use packets::Packet;
@@ -31,6 +31,7 @@ pub struct Listed {
 }
 
 // The header line.
+#[tactic(auto, unfolding(crate::specs::Text::heading))]
 pub fn heading() -> [u8; 17]
     ensures { result ≡ heading_of }
 {
@@ -38,25 +39,25 @@ pub fn heading() -> [u8; 17]
 }
 
 // Writes the line of what was found; none while a packet is open.
+#[tactic(auto, using(fields::proofs::Buffer::over_none))]
 fn put_found(out: &mut [u8; 32], offset: u64, found: Span, packet: Packet) -> usize
     requires { size_of found ≤ 259 }
     ensures { (result ≡ length (line_by offset found packet)) × (out.new ≡ over 0 (line_by offset found packet) out.old) }
 {
     match found {
         Span::Open => 0,
-        Span::Whole(n) => lines::put_packet(out, offset, packet, n),
-        Span::Drop(n) => lines::put_packet(out, offset, packet, n),
+        Span::Whole(n) | Span::Drop(n) => lines::put_packet(out, offset, packet, n),
     }
 }
 
-// The offset behind what was found.
-fn advance(offset: u64, found: Span) -> u64
-    ensures { result ≡ advanced offset (size_of found) }
+// How many bytes were found.
+fn size_of(found: Span) -> usize
+    ensures { result ≡ size_of found }
 {
-    match found {
-        Span::Open => offset,
-        Span::Whole(n) => std::num::wrapping_add_u64(offset, n as u64),
-        Span::Drop(n) => std::num::wrapping_add_u64(offset, n as u64),
+    if let Span::Whole(n) | Span::Drop(n) = found {
+        n
+    } else {
+        0
     }
 }
 
@@ -75,10 +76,8 @@ impl Lister {
         ensures { step_of self chunk.now out.old ≡ record { listed = result; out = out.new } }
     {
         let got = self.reader.receive(chunk);
-        let found = got.found;
-        let packet = got.packet;
-        let written = put_found(out, self.offset, found, packet);
-        let offset = advance(self.offset, found);
+        let written = put_found(out, self.offset, got.found, got.packet);
+        let offset = self.offset.wrapping_add(size_of(got.found) as u64);
         // Read behind the calls: before them it would be copied once more.
         let reader = got.reader;
         Listed {
@@ -93,7 +92,7 @@ impl Lister {
         ensures { (result ≡ length (end_text self)) × (out.new ≡ over 0 (end_text self) out.old) }
     {
         let filled = self.reader.filled();
-        let total = std::num::wrapping_add_u64(self.offset, filled as u64);
+        let total = self.offset.wrapping_add(filled as u64);
         lines::put_ending(out, self.offset, filled, total)
     }
 }

@@ -3,52 +3,59 @@ ghost use Rattle.std.specs.Prelude.{◌≡◌, ◌+◌, ◌-◌, ◌≤◌, [], 
 ghost use Rattle.fields.specs.Buffer.{over, appended, appended_end};
 ghost use Rattle.numbers.specs.Writing.{decimal};
 ghost use Rattle.packets.specs.Content.{content_of};
+ghost use Rattle.packets.specs.Kind.{kind_of};
 ghost use Rattle.listing.specs.Line.{letters, overhead, line, line_of, cut, ending};
 
 use fields::buffers;
 use numbers::numerals;
-use packets::{Packet, kinds};
+use packets::Packet;
+
+// The letters of a packet's kind; a malformed header is listed as the HD that it is.
+#[tactic(auto, unfolding(crate::specs::Line::letters, packets::specs::Kind::kind_of, packets::specs::Content::content_of, packets::specs::Kind::look))]
+fn letters(packet: Packet) -> &'static [u8]
+    ensures { (result.now ≡ letters (kind_of (content_of [] packet))) × (length result.now ≤ 3) }
+{
+    match packet {
+        Packet::RR => b"RR",
+        Packet::RF => b"RF",
+        Packet::AF => b"AF",
+        Packet::AT => b"AT",
+        Packet::CA => b"CA",
+        Packet::RT => b"RT",
+        Packet::SI => b"SI",
+        Packet::RI(_) => b"RI",
+        Packet::HD(_) | Packet::Malformed(_) => b"HD",
+        Packet::DT(_) => b"DT",
+        Packet::EF => b"EF",
+        Packet::ET => b"ET",
+        Packet::NR(_) => b"NR",
+        Packet::RE(_) => b"RE",
+        Packet::CN(_) => b"CN",
+        Packet::TX(_) => b"TX",
+        Packet::Dropped(_) => b"BAD",
+        Packet::Open => b"CUT",
+    }
+}
 
 // The bytes of a packet that are not its data.
-fn overhead_of(kind: usize) -> usize
-    ensures { result ≡ overhead kind }
+#[tactic(auto, unfolding(crate::specs::Line::overhead, packets::specs::Kind::kind_of, packets::specs::Content::content_of, packets::specs::Kind::look))]
+fn overhead_of(packet: Packet) -> usize
+    ensures { result ≡ overhead (kind_of (content_of [] packet)) }
 {
-    match kind {
-        7 => 3,
-        17 => 0,
-        18 => 0,
+    match packet {
+        Packet::RI(_) => 3,
+        Packet::Dropped(_) | Packet::Open => 0,
         _ => 2,
     }
 }
 
-// The bytes of data in a packet of this many bytes.
-fn data_count(kind: usize, size: usize) -> usize
-    ensures { result ≡ size - overhead kind }
-{
-    let o = overhead_of(kind);
-    if size < o { 0 } else { size - o }
-}
-
-// Writes the letters of a kind: two, and three of the last two kinds.
-fn append_letters(out: &mut [u8], at: usize, kind: usize) -> usize
-    requires { kind ≤ 18 }
-    ensures { (result ≡ appended_end at (letters kind) out.old) × (out.new ≡ appended at (letters kind) out.old) }
-{
-    let table = b"RRRFAFATCARTSIRIHDDTEFETNRRECNTXHDBADCUT";
-    buffers::append_bytes(
-        out,
-        at,
-        fields::part(table, 2 * kind + kind / 18, 2 + kind / 17),
-    )
-}
-
 // Writes a line to the front of the buffer.
-fn put_line(out: &mut [u8], offset: u64, kind: usize, count: usize) -> usize
-    requires { (kind ≤ 18) × (26 + length (decimal count) ≤ length out.old) }
-    ensures { (result ≡ length (line offset (letters kind) count)) × (out.new ≡ over 0 (line offset (letters kind) count) out.old) }
+fn put_line(out: &mut [u8], offset: u64, packet: Packet, count: usize) -> usize
+    requires { 26 + length (decimal count) ≤ length out.old }
+    ensures { (result ≡ length (line offset (letters (kind_of (content_of [] packet))) count)) × (out.new ≡ over 0 (line offset (letters (kind_of (content_of [] packet))) count) out.old) }
 {
     let a = numerals::append_decimal(out, 0, offset, b' ');
-    let b = append_letters(out, a, kind);
+    let b = buffers::append_bytes(out, a, letters(packet));
     let c = buffers::append_byte(out, b, b' ');
     numerals::append_decimal(out, c, count as u64, b'\n')
 }
@@ -58,9 +65,12 @@ pub fn put_packet(out: &mut [u8; 32], offset: u64, packet: Packet, size: usize) 
     requires { size ≤ 259 }
     ensures { (result ≡ length (line_of offset (content_of [] packet) size)) × (out.new ≡ over 0 (line_of offset (content_of [] packet) size) out.old) }
 {
-    let kind = kinds::kind_of(packet);
-    let count = data_count(kind, size);
-    put_line(out, offset, kind, count)
+    put_line(
+        out,
+        offset,
+        packet,
+        size.saturating_sub(overhead_of(packet)),
+    )
 }
 
 // Writes the line of an unfinished packet of n bytes, if there is one.
@@ -71,7 +81,7 @@ fn put_cut(out: &mut [u8], offset: u64, n: usize) -> usize
     if n == 0 {
         return 0;
     }
-    put_line(out, offset, 18, n)
+    put_line(out, offset, Packet::Open, n)
 }
 
 // Writes the last lines.

@@ -1,4 +1,5 @@
 -- What is written reads back, and what is read from the form that we write is written back unchanged. Assumes nothing.
+use Rattle.std.specs.Prelude.{Some}
 use mathlib.Core.Path.{◌≡◌, refl, sym, ap, ◌∙◌}
 use mathlib.Core.Bool.{Bool, true, false, ◌||◌}
 use mathlib.Core.List.{List, [], ◌∷◌, ◌++◌, append_assoc, append-nil}
@@ -10,7 +11,6 @@ use native.Mathlib.Omega.{arith}
 use lib.ListN.{length, get_or, length-append, get_or-append}
 use borrow.Author.Tests.{lt-ltb, le-ltb, le-leb, lt-leb, ne_eqb, eqb-false, not-true, ltb-true}
 use lib.Dec.{leb, eqb}
-use Rattle.numbers.specs.declared.Number.TheVariants.{Value}
 use Rattle.numbers.specs.declared.Base.{Base}
 use Rattle.numbers.specs.declared.Base.TheVariants.{Decimal, Hex}
 use Rattle.fields.specs.Lists.{all}
@@ -24,11 +24,11 @@ use Rattle.numbers.proofs.Reading.{below, below_none, decimal-is, decimal-byte, 
 -- Written, and read back
 
 -- a digit at the end
-snoc : (b : Base) (acc c v : ℕ) (s : List ℕ) → digit b c < radix b → value_from b acc s ≡ Value v
-    → value_from b acc (s ++ (c ∷ [])) ≡ Value (v * radix b + digit b c)
+snoc : (b : Base) (acc c v : ℕ) (s : List ℕ) → digit b c < radix b → value_from b acc s ≡ Some v
+    → value_from b acc (s ++ (c ∷ [])) ≡ Some (v * radix b + digit b c)
 snoc b acc c v [] h e =
     let w : acc ≡ v = cc (value_none b acc) in
-    value-one b acc c [] h ∙ value_none b _ ∙ ap (λ (x : ℕ). Value (x * radix b + digit b c)) w
+    value-one b acc c [] h ∙ value_none b _ ∙ ap (λ (x : ℕ). Some (x * radix b + digit b c)) w
 snoc b acc c v (a ∷ s) h e =
     let d = value-digit b acc a v s e in
     value-one b acc a _ d.0 ∙ snoc b (acc * radix b + digit b a) c v s h d.1
@@ -52,37 +52,37 @@ capital-digit n h = ⊎_elim
     (le-or-lt 10 n)
 
 -- a decimal digit and a hex digit behind those before them
-decimal-snoc : (acc v n : ℕ) (s : List ℕ) → n < 10 → value_from Decimal acc s ≡ Value v → value_from Decimal acc (s ++ ((48 + n) ∷ [])) ≡ Value (v * 10 + n)
+decimal-snoc : (acc v n : ℕ) (s : List ℕ) → n < 10 → value_from Decimal acc s ≡ Some v → value_from Decimal acc (s ++ ((48 + n) ∷ [])) ≡ Some (v * 10 + n)
 unfolding radix
 decimal-snoc acc v n s h e =
     let d = decimal_digit_lem n h in
-    snoc Decimal acc (48 + n) v s (omega arith) e ∙ ap (λ (x : ℕ). Value (v * 10 + x)) d
+    snoc Decimal acc (48 + n) v s (omega arith) e ∙ ap (λ (x : ℕ). Some (v * 10 + x)) d
 
-hex-snoc : (acc v n : ℕ) (s : List ℕ) → n < 16 → value_from Hex acc s ≡ Value v → value_from Hex acc (s ++ (capital n ∷ [])) ≡ Value (v * 16 + n)
+hex-snoc : (acc v n : ℕ) (s : List ℕ) → n < 16 → value_from Hex acc s ≡ Some v → value_from Hex acc (s ++ (capital n ∷ [])) ≡ Some (v * 16 + n)
 unfolding radix
 hex-snoc acc v n s h e =
     let d = capital-digit n h in
-    snoc Hex acc (capital n) v s (omega arith) e ∙ ap (λ (x : ℕ). Value (v * 16 + x)) d
+    snoc Hex acc (capital n) v s (omega arith) e ∙ ap (λ (x : ℕ). Some (v * 16 + x)) d
 
-pub decimal-value : (n : ℕ) → n < 10 ^ 20 → value_from Decimal 0 (decimal n) ≡ Value n
+pub decimal-value : (n : ℕ) → n < 10 ^ 20 → value_from Decimal 0 (decimal n) ≡ Some n
 decimal-value n h = go n n h (omega arith)
   where
-    small : (n : ℕ) → n < 10 → value_from Decimal 0 (decimal n) ≡ Value n
-    small n g = rw (decimal-small n g) (decimal-snoc 0 0 (n % 10) [] (omega arith) (value_none Decimal 0) ∙ ap Value (omega arith))
+    small : (n : ℕ) → n < 10 → value_from Decimal 0 (decimal n) ≡ Some n
+    small n g = rw (decimal-small n g) (decimal-snoc 0 0 (n % 10) [] (omega arith) (value_none Decimal 0) ∙ ap Some (omega arith))
 
-    go : (k n : ℕ) → n < 10 ^ 20 → n ≤ k → value_from Decimal 0 (decimal n) ≡ Value n
+    go : (k n : ℕ) → n < 10 ^ 20 → n ≤ k → value_from Decimal 0 (decimal n) ≡ Some n
     go zero n b h = small n (omega arith)
     go (suc k) n b h = ⊎_elim
-        (λ (g : 10 ≤ n). rw (decimal-more n g b) (decimal-snoc 0 (n / 10) (n % 10) (decimal (n / 10)) (omega arith) (go k (n / 10) (omega arith) (omega arith)) ∙ ap Value (omega arith)))
+        (λ (g : 10 ≤ n). rw (decimal-more n g b) (decimal-snoc 0 (n / 10) (n % 10) (decimal (n / 10)) (omega arith) (go k (n / 10) (omega arith) (omega arith)) ∙ ap Some (omega arith)))
         (λ (g : n < 10). small n g)
         (le-or-lt 10 n)
 
-pub hex-value : (w v : ℕ) → v < 16 ^ w → value_from Hex 0 (hex w v) ≡ Value v
+pub hex-value : (w v : ℕ) → v < 16 ^ w → value_from Hex 0 (hex w v) ≡ Some v
 unfolding hex
-hex-value zero v h = value_none Hex 0 ∙ ap Value (omega arith)
+hex-value zero v h = value_none Hex 0 ∙ ap Some (omega arith)
 hex-value (suc w) v h =
     let p : v < 16 ^ w * 16 = rw (pow-suc 16 w) at h in
-    hex-snoc 0 (v / 16) (v % 16) (hex w (v / 16)) (omega arith) (hex-value w (v / 16) (omega arith)) ∙ ap Value (omega arith)
+    hex-snoc 0 (v / 16) (v % 16) (hex w (v / 16)) (omega arith) (hex-value w (v / 16) (omega arith)) ∙ ap Some (omega arith)
 
 -- n below 10 ^ suc w has at most suc w digits
 pub decimal-length : (w n : ℕ) → n < 10 ^ 20 → n < 10 ^ suc w → length (decimal n) ≤ suc w
@@ -92,16 +92,16 @@ decimal-length (suc w) n b h = ⊎_elim
     (λ (g : n < 10). rw (decimal-small n g) (omega arith))
     (le-or-lt 10 n)
 
-pub read-decimal : (w n : ℕ) → n < 10 ^ 20 → n < 10 ^ suc w → read_decimal (suc w) (decimal n) ≡ Value n
+pub read-decimal : (w n : ℕ) → n < 10 ^ 20 → n < 10 ^ suc w → read_decimal (suc w) (decimal n) ≡ Some n
 read-decimal w n b h = sym (read_decimal-is (suc w) (decimal n) (decimal-some n) (decimal-length w n b h)) ∙ decimal-value n b
 
-pub read-size : (n : ℕ) → n ≤ 99999999 → read_size (decimal n) ≡ Value n
+pub read-size : (n : ℕ) → n ≤ 99999999 → read_size (decimal n) ≡ Some n
 read-size n h = read-decimal 7 n (omega arith) (omega arith)
 
-pub read-crc : (n : ℕ) → n ≤ 65535 → read_crc (decimal n) ≡ Value n
+pub read-crc : (n : ℕ) → n ≤ 65535 → read_crc (decimal n) ≡ Some n
 read-crc n h = sym (read_crc-is (decimal n) n (read-decimal 4 n (omega arith) (omega arith)) h)
 
-pub read-hex : (v : ℕ) → v < 16 ^ 8 → read_hex (hex 8 v) ≡ Value v
+pub read-hex : (v : ℕ) → v < 16 ^ 8 → read_hex (hex 8 v) ≡ Some v
 read-hex v h = sym (read_hex-is (hex 8 v) (hex-length 8 v)) ∙ hex-value 8 v h
 
 pub little-value : (w v : ℕ) → v < 256 ^ w → little_value (little w v) ≡ v
@@ -111,13 +111,13 @@ little-value (suc w) v h =
     let p : v < 256 ^ w * 256 = rw (pow-suc 256 w) at h in
     rw (little-value w (v / 256) (omega arith)) (omega arith)
 
-pub read-little : (w v : ℕ) → w ≤ 4 → v < 256 ^ w → read_little (little w v) ≡ Value v
-read-little w v k h = sym (read_little-is (little w v) (rw (little-length w v) k)) ∙ ap Value (little-value w v h)
+pub read-little : (w v : ℕ) → w ≤ 4 → v < 256 ^ w → read_little (little w v) ≡ Some v
+read-little w v k h = sym (read_little-is (little w v) (rw (little-length w v) k)) ∙ ap Some (little-value w v h)
 
 -- Read, and written back
 
 -- a digit behind a number that is not 0 is written behind its digits
-decimal-behind : (acc v : ℕ) (s : List ℕ) → 0 < acc → v < 10 ^ 20 → value_from Decimal acc s ≡ Value v → decimal v ≡ decimal acc ++ s
+decimal-behind : (acc v : ℕ) (s : List ℕ) → 0 < acc → v < 10 ^ 20 → value_from Decimal acc s ≡ Some v → decimal v ≡ decimal acc ++ s
 unfolding radix
 decimal-behind acc v [] h b e = let w : acc ≡ v = cc (value_none Decimal acc) in rw (← w) (sym (append-nil (decimal acc)))
 decimal-behind acc v (c ∷ s) h b e =
@@ -130,7 +130,7 @@ decimal-behind acc v (c ∷ s) h b e =
     decimal-behind (acc * 10 + decimal_digit c) v s (omega arith) b d.1
     ∙ rw (decimal-more (acc * 10 + decimal_digit c) (omega arith) (omega arith), q, m) (append_assoc (decimal acc) (c ∷ []) s)
 
-pub decimal-back : (w v : ℕ) (s : List ℕ) → w ≤ 20 → read_decimal w s ≡ Value v → plain s ≡ true → decimal v ≡ s
+pub decimal-back : (w v : ℕ) (s : List ℕ) → w ≤ 20 → read_decimal w s ≡ Some v → plain s ≡ true → decimal v ≡ s
 unfolding plain radix
 decimal-back w v [] k e p = let f = decimal-form w v [] e in absurd (omega arith)
 decimal-back w v (c ∷ s) k e p =
@@ -141,7 +141,7 @@ decimal-back w v (c ∷ s) k e p =
     let i = decimal-is c r.0 r.1 in
     first s (omega arith) (0 * 10 + decimal_digit c) (omega arith) (omega arith) d.1 p
   where
-    first : (s : List ℕ) → v < 10 ^ 20 → (n : ℕ) → n < 10 → 48 + n ≡ c → value_from Decimal n s ≡ Value v → plain (c ∷ s) ≡ true → decimal v ≡ c ∷ s
+    first : (s : List ℕ) → v < 10 ^ 20 → (n : ℕ) → n < 10 → 48 + n ≡ c → value_from Decimal n s ≡ Some v → plain (c ∷ s) ≡ true → decimal v ≡ c ∷ s
     first [] b n h q e p =
         let m : n ≡ v = cc (value_none Decimal n) in
         let x : 48 + v % 10 ≡ c = omega arith in
@@ -152,10 +152,10 @@ decimal-back w v (c ∷ s) k e p =
         let x : 48 + n % 10 ≡ c = omega arith in
         decimal-behind n v (a ∷ s) (omega arith) b e ∙ rw (decimal-small n h, x)
 
-pub size_back : (v : ℕ) (s : List ℕ) → read_size s ≡ Value v → plain s ≡ true → decimal v ≡ s
+pub size_back : (v : ℕ) (s : List ℕ) → read_size s ≡ Some v → plain s ≡ true → decimal v ≡ s
 size_back v s e p = decimal-back 8 v s (omega arith) e p
 
-pub crc-back : (v : ℕ) (s : List ℕ) → read_crc s ≡ Value v → plain s ≡ true → decimal v ≡ s
+pub crc-back : (v : ℕ) (s : List ℕ) → read_crc s ≡ Some v → plain s ≡ true → decimal v ≡ s
 crc-back v s e p = decimal-back 5 v s (omega arith) (crc-form v s e).1 p
 
 -- a hex digit in capitals is the capital of its value
@@ -183,7 +183,7 @@ hex-last k acc c s h g =
     rw (q, m, capital-back c h g) (append_assoc (hex k acc) (c ∷ []) s)
 
 -- digits behind k others are written behind them
-hex-behind : (k acc v : ℕ) (s : List ℕ) → value_from Hex acc s ≡ Value v → capitals s ≡ true → hex (k + length s) v ≡ hex k acc ++ s
+hex-behind : (k acc v : ℕ) (s : List ℕ) → value_from Hex acc s ≡ Some v → capitals s ≡ true → hex (k + length s) v ≡ hex k acc ++ s
 unfolding radix all
 hex-behind k acc v [] e f = let w : acc ≡ v = cc (value_none Hex acc) in rw (← w, add-zero k) (sym (append-nil (hex k acc)))
 hex-behind k acc v (c ∷ s) e f =
@@ -193,11 +193,11 @@ hex-behind k acc v (c ∷ s) e f =
     rw n (hex-behind (suc k) (acc * 16 + hex_digit c) v s d.1 g.1 ∙ hex-last k acc c s d.0 g.0)
 
 -- over the width
-pub hex-digits-back : (v : ℕ) (s : List ℕ) → value_from Hex 0 s ≡ Value v → capitals s ≡ true → hex (length s) v ≡ s
+pub hex-digits-back : (v : ℕ) (s : List ℕ) → value_from Hex 0 s ≡ Some v → capitals s ≡ true → hex (length s) v ≡ s
 unfolding hex
 hex-digits-back v s e f = rw (zero-add (length s)) at (hex-behind 0 0 v s e f)
 
-pub hex-back : (v : ℕ) (s : List ℕ) → read_hex s ≡ Value v → capitals s ≡ true → hex 8 v ≡ s
+pub hex-back : (v : ℕ) (s : List ℕ) → read_hex s ≡ Some v → capitals s ≡ true → hex 8 v ≡ s
 hex-back v s e f = let g = hex-form v s e in rw g.0 at (hex-digits-back v s g.1 f)
 
 pub little-bytes-back : (s : List ℕ) → all is_byte s ≡ true → little (length s) (little_value s) ≡ s
@@ -218,7 +218,7 @@ little-below (c ∷ s) f =
     let g = both _ _ f in
     rw add-one at (below 256 (length s) (little_value s) c (little-below s g.1) (ltb-true c 256 g.0))
 
-pub little-back : (v : ℕ) (s : List ℕ) → read_little s ≡ Value v → all is_byte s ≡ true → little (length s) v ≡ s
+pub little-back : (v : ℕ) (s : List ℕ) → read_little s ≡ Some v → all is_byte s ≡ true → little (length s) v ≡ s
 little-back v s e f = rw (little-form v s e).1 at (little-bytes-back s f)
 
 -- ---- what is written is in that form

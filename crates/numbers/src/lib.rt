@@ -7,13 +7,6 @@ pub mod little_reader;
 pub mod little_writer;
 pub mod numerals;
 
-// What a field that should hold a number reads as.
-#[derive(Clone, Copy)]
-pub enum Number {
-    Value(u32),
-    Malformed,
-}
-
 // The digits that a number is written in.
 #[derive(Clone, Copy)]
 pub enum Base {

@@ -4,11 +4,11 @@ ghost use Rattle.fields.specs.Buffer.{placed, placed_count, appended, appended_e
 ghost use Rattle.numbers.specs.Writing.{decimal};
 
 // Writes the digits of n and then the byte end over the beginning of buf, and returns how many bytes that is; where they do not fit,
-// writes nothing and returns 0.
+// writes nothing and returns 0. By recursion: the last digit is the first that is known, and only the first tells how many there are.
 fn put_decimal(buf: &mut [u8], n: u64, end: u8) -> usize
     ensures { (result ≡ placed_count (decimal n ++ (end ∷ [])) buf.old) × (buf.new ≡ placed (decimal n ++ (end ∷ [])) buf.old) }
 {
-    let digit = (48 + n % 10) as u8;
+    let digit = b'0' + (n % 10) as u8;
     if buf.len() < 2 {
         return 0;
     }
@@ -27,13 +27,12 @@ fn put_decimal(buf: &mut [u8], n: u64, end: u8) -> usize
 }
 
 // The same from index at on: every number is written with a byte behind it. Returns the index behind what it wrote; where that does not
-// fit, writes nothing and returns at.
+// fit, writes nothing and returns at, and not None, as `fields::buffers` says.
 pub fn append_decimal(buf: &mut [u8], at: usize, n: u64, end: u8) -> usize
     ensures { (result ≡ appended_end at (decimal n ++ (end ∷ [])) buf.old) × (buf.new ≡ appended at (decimal n ++ (end ∷ [])) buf.old) }
 {
-    if at <= buf.len() {
-        let k = put_decimal(&mut buf[at..], n, end);
-        return at + k;
+    if buf.len() < at {
+        return at;
     }
-    at
+    at + put_decimal(&mut buf[at..], n, end)
 }

@@ -1,11 +1,11 @@
 -- The laws of `feed`.
 -- Assumes nothing.
-use mathlib.Core.Path.{◌≡◌, refl, ◌∙◌}
+use mathlib.Core.Path.{◌≡◌, refl}
 use mathlib.Core.Bool.{Bool}
 use mathlib.Core.List.{List, [], ◌∷◌}
 use Prim.Native.Nat.{ℕ, ◌+◌, ◌≤◌, ◌<◌}
 use native.Mathlib.Omega.{arith}
-use lib.ListN.{length, get_or, take, drop, set, length-set}
+use lib.ListN.{length, get_or, take, drop, set}
 use Rattle.fields.proofs.Lists.{drop-one}
 use Rattle.packets.specs.declared.spans.Span.{Span}
 use Rattle.packets.specs.declared.spans.Span.TheVariants.{Open, Whole, Drop}
@@ -20,22 +20,11 @@ pub feed-step : (k : Bool) (a : List ℕ) (n i : ℕ) (s : List ℕ) (at : ℕ) 
 unfolding feed
 feed-step k a n i s at v e h p = rw (p, e, drop-one s i h)
 
-after-long : (v : Span) (a : List ℕ) (i : ℕ) (more : Fed) (m : ℕ) → length a ≡ m → length more.pending ≡ m → length (after v a i more).pending ≡ m
-after-long Open a i more m p q = q
-after-long (Whole w) a i more m p q = p
-after-long (Drop w) a i more m p q = p
-
-fed-long : (k : Bool) (a : List ℕ) (n i : ℕ) (s : List ℕ) → length (feed k a n i s).pending ≡ length a
-unfolding feed
-fed-long k a n i [] = refl
-fed-long k a n i (x ∷ xs) =
-    let b = set a (slot n) x in
-    let e : length b ≡ length a = length-set a (slot n) x in
-    after-long (span k (take (slot n + 1) b)) b (i + 1) (feed k b (slot n + 1) (i + 1) xs) (length a) e (fed-long k b (slot n + 1) (i + 1) xs ∙ e)
-
--- the buffer stays as long as it is
-pub feed-long : (k : Bool) (a : List ℕ) (n i : ℕ) (s : List ℕ) (f : Fed) → feed k a n i s ≡ f → length f.pending ≡ length a
-feed-long k a n i s f e = rw (← e) (fed-long k a n i s)
+-- a packet or a drop ends the feeding
+pub stopped : (v : Span) (a : List ℕ) (i : ℕ) (more : Fed) → (v ≡ Open → ⊥) → after v a i more ≡ record { pending = a; filled = 0; taken = i; found = v }
+stopped Open a i more h = absurd (h refl)
+stopped (Whole w) a i more h = refl
+stopped (Drop w) a i more h = refl
 
 -- How many bytes are taken: at least one of a chunk that has one, and no more than it has.
 pub record Within (lo hi : ℕ) (f : Fed) : Type 0 where

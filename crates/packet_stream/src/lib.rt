@@ -1,19 +1,18 @@
 // Reads YAPP packets that come in chunks (document 01's portions) of any size.
 #![tactic(auto)]
 
-ghost use Rattle.std.specs.Prelude.{◌≡◌};
+ghost use Rattle.std.specs.Prelude.{◌≡◌, ◌<◌};
+ghost use Rattle.packet_stream.specs.Pending.{Fed, slot as slot_of, feed};
 ghost use Rattle.packet_stream.specs.Reader.{fresh, checking, receive as receive_of};
 
 use packets::spans::Span;
-use packets::{Packet, packet_reader};
-
-mod pending;
+use packets::{Packet, packet_reader, spans};
 
 #[derive(Clone, Copy)]
 pub struct Reader {
     // The bytes of an unfinished packet (document 01's waiting room), and after a packet its bytes.
     pending: [u8; 259],
-    // How many bytes wait.
+    // How many bytes wait. A count beside an array: the library has no heap.
     filled: usize,
     // Whether every DT has a checksum (YappC).
     checked: bool,
@@ -46,12 +45,7 @@ impl Reader {
     pub fn checking(self, checked: bool) -> Self
         ensures { result ≡ checking checked self }
     {
-        let pending = self.pending;
-        Reader {
-            pending,
-            filled: self.filled,
-            checked,
-        }
+        Reader { checked, ..self }
     }
 
     // The pending bytes. After a packet they begin with it.
@@ -75,25 +69,46 @@ impl Reader {
         self.checked
     }
 
+    // Fills the pending bytes from the chunk until they are a packet, or a drop. Returns how many bytes of the chunk were taken.
+    fn fill(&mut self, chunk: &[u8]) -> (usize, Span)
+        ensures fed { feed self.old.checked self.old.pending self.old.filled 0 chunk.now ≡ record { pending = self.new.pending; filled = self.new.filled; taken = result.0; found = result.1 } }
+        ensures mode { self.new.checked ≡ self.old.checked }
+    {
+        for (i, &x) in chunk.iter().enumerate() {
+            let at = slot(self.filled);
+            self.pending[at] = x;
+            self.filled = at + 1;
+            match spans::span_of(&self.pending[..self.filled], self.checked) {
+                Span::Open => {}
+                found => {
+                    self.filled = 0;
+                    return (i + 1, found);
+                }
+            }
+        }
+        (chunk.len(), Span::Open)
+    }
+
     // Takes bytes of the chunk, at most to the end of one packet. An empty chunk changes nothing.
     pub fn receive(self, chunk: &[u8]) -> Received
         ensures { result ≡ receive_of self chunk.now }
     {
-        let mut pending = self.pending;
-        let checked = self.checked;
-        let filled = self.filled;
-        let f = pending::fill(&mut pending, filled, checked, chunk);
-        let found = f.found;
-        let packet = packet_reader::packet_in(found, &pending, checked);
+        let mut reader = self;
+        let (taken, found) = reader.fill(chunk);
+        let packet = packet_reader::packet_in(found, &reader.pending, reader.checked);
         Received {
-            reader: Reader {
-                pending,
-                filled: f.filled,
-                checked,
-            },
-            taken: f.taken,
+            reader,
+            taken,
             found,
             packet,
         }
     }
+}
+
+// Where the next byte goes.
+#[tactic(auto, unfolding(crate::specs::Pending::slot))]
+fn slot(filled: usize) -> usize
+    ensures { (result ≡ slot_of filled) × (result < 259) }
+{
+    if filled < 259 { filled } else { 0 }
 }

@@ -1,2 +1,2 @@
--- Laws of the buffer that the bytes of a packet are laid into.
-mod Leads
+-- What the writers of a text and of data share.
+mod Laid

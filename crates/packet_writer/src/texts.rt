@@ -1,64 +1,34 @@
-// Writes the YAPP packets that carry a text: CN, TX, NR and RI.
-ghost use Rattle.std.specs.Prelude.{◌≡◌};
-ghost use Rattle.fields.specs.Buffer.{written_of, left_of};
-ghost use Rattle.packets.specs.Packet.{resume_read};
-ghost use Rattle.packets.specs.Content.{counted_form, is_asked, refusal_form, request_form};
+// Writes the YAPP packets that count what they carry: all but DT and those of two bytes.
+ghost use Rattle.std.specs.Prelude.{◌≡◌, ◌≤◌, ◌∷◌, ◌++◌, length, leb};
+ghost use Rattle.fields.specs.Buffer.{form_if, written_of, left_of};
+ghost use Rattle.packets.specs.Content.{refusal_form};
 
-use fields::{Limits, Written, buffers};
-use packets::{ResumeRead, resume_reader};
+use fields::{WriteError, buffers};
+use packets::resume_reader;
 
-// CN, TX and NR: the first byte, the length, at most 255 bytes of data laid down directly behind the two leading bytes.
-pub fn write_counted(reply: &mut [u8], first: u8, text: &[u8]) -> Written
-    ensures { (result ≡ written_of 259 (counted_form first text.now) reply.old) × (reply.new ≡ left_of 259 (counted_form first text.now) reply.old) }
+// The leading bytes, the length, and at most 255 bytes of text.
+#[tactic(auto, unfolding(fields::specs::Buffer::written_of, fields::specs::Buffer::left_of))]
+pub fn write_text(reply: &mut [u8], lead: &[u8], text: &[u8]) -> Result<usize, WriteError>
+    requires { length lead.now ≤ 3 }
+    ensures { (result ≡ written_of 259 (form_if (leb (length text.now) 255) (lead.now ++ (length text.now ∷ text.now))) reply.old) × (reply.new ≡ left_of 259 (form_if (leb (length text.now) 255) (lead.now ++ (length text.now ∷ text.now))) reply.old) }
 {
-    if reply.len() < Limits::REPLY {
-        return Written::Small;
+    crate::check_room(reply)?;
+    if text.len() > 255 {
+        return Err(WriteError::Formless);
     }
-    if 255 < text.len() {
-        return Written::Formless;
-    }
-    let n = buffers::put_bytes(&mut reply[2..], text);
-    reply[1] = n as u8;
-    reply[0] = first;
-    Written::Bytes(n + 2)
-}
-
-// Whether the data d of a NAK would read as a resume.
-fn is_resume(d: &[u8]) -> bool
-    ensures { result ≡ is_asked (resume_read d.now) }
-{
-    match resume_reader::resume_read(d) {
-        ResumeRead::Asked(_) => true,
-        ResumeRead::Nothing => false,
-    }
+    let end = buffers::append_bytes(reply, 0, lead);
+    let end = buffers::append_byte(reply, end, text.len() as u8);
+    Ok(buffers::append_bytes(reply, end, text))
 }
 
 // NR with a reason. One that would read as a resume has no form.
-pub fn write_nr(reply: &mut [u8], reason: &[u8]) -> Written
+#[tactic(auto, unfolding(fields::specs::Buffer::written_of, fields::specs::Buffer::left_of, packets::specs::Content::refusal_form))]
+pub fn write_nr(reply: &mut [u8], reason: &[u8]) -> Result<usize, WriteError>
     ensures { (result ≡ written_of 259 (refusal_form reason.now) reply.old) × (reply.new ≡ left_of 259 (refusal_form reason.now) reply.old) }
 {
-    if reply.len() < Limits::REPLY {
-        return Written::Small;
+    crate::check_room(reply)?;
+    if resume_reader::resume_read(reason).is_some() {
+        return Err(WriteError::Formless);
     }
-    if is_resume(reason) {
-        return Written::Formless;
-    }
-    write_counted(reply, 0x15, reason)
-}
-
-// RI with a filespec: three leading bytes.
-pub fn write_ri(reply: &mut [u8], filespec: &[u8]) -> Written
-    ensures { (result ≡ written_of 259 (request_form filespec.now) reply.old) × (reply.new ≡ left_of 259 (request_form filespec.now) reply.old) }
-{
-    if reply.len() < Limits::REPLY {
-        return Written::Small;
-    }
-    if 255 < filespec.len() {
-        return Written::Formless;
-    }
-    let n = buffers::put_bytes(&mut reply[3..], filespec);
-    reply[2] = n as u8;
-    reply[1] = 2;
-    reply[0] = 5;
-    Written::Bytes(n + 3)
+    write_text(reply, &[0x15], reason)
 }

@@ -1,5 +1,6 @@
 -- What is read keeps to the limits of a name, a size, a stamp, a position and a block.
 -- Assumes nothing.
+use Rattle.std.specs.Prelude.{None, Option, Some}
 use mathlib.Core.Path.{◌≡◌, refl, ◌∙◌}
 use mathlib.Core.Bool.{Bool, true, false}
 use mathlib.Core.List.{List, [], ◌∷◌, ◌++◌}
@@ -14,12 +15,8 @@ use Rattle.fields.specs.Name.{is_name}
 use Rattle.fields.proofs.Lists.{take-up_to, up_to-le}
 use Rattle.numbers.proofs.Reading.{size_below}
 use Rattle.packets.specs.declared.spans.Span.TheVariants.{Open as Unfinished, Whole, Drop}
-use Rattle.packets.specs.declared.HeaderRead.TheVariants.{Good, Bad}
-use Rattle.packets.specs.declared.ResumeRead.{ResumeRead}
-use Rattle.packets.specs.declared.ResumeRead.TheVariants.{Asked, Nothing}
 use Rattle.packets.specs.declared.Packet.{Packet}
 use Rattle.packets.specs.declared.Header.{Header}
-use Rattle.packets.specs.declared.HeaderRead.{HeaderRead}
 use Rattle.packets.specs.declared.Resume.{Resume}
 use Rattle.packets.specs.declared.spans.Span.{Span}
 use Rattle.packets.specs.declared.Block.{Block}
@@ -61,9 +58,9 @@ module _ (k : Bool) (x : ℕ) (t r : List ℕ) where
   unfolding whole_of Keeps counted
   header-keeps = rw (data-behind k 1 x t refl) (go (header_read t) refl)
     where
-      go : (v : HeaderRead) → header_read t ≡ v → Keeps ((1 ∷ x ∷ t) ++ r) (header_by t v)
-      go Bad e = tt
-      go (Good h) e =
+      go : (v : Option Header) → header_read t ≡ v → Keeps ((1 ∷ x ∷ t) ++ r) (header_by t v)
+      go None e = tt
+      go (Some h) e =
           let p = header-parts t h e in
           let n : take (length (up_to 0 t)) (t ++ r) ≡ up_to 0 t = take-append-le (length (up_to 0 t)) t r (up_to-le 0 t) ∙ take-up_to 0 t (length (up_to 0 t)) refl in
           (rw (p.place, n) p.name, size_below h.size (up_to 0 (behind t)) p.size, rw p.stamp (stamp_in_range (behind (behind t))))
@@ -72,9 +69,9 @@ module _ (k : Bool) (x : ℕ) (t r : List ℕ) where
   unfolding whole_of Keeps
   nak-keeps = go (resume_read (data_of k (0x15 ∷ x ∷ t))) refl
     where
-      go : (v : ResumeRead) → resume_read (data_of k (0x15 ∷ x ∷ t)) ≡ v → Keeps ((0x15 ∷ x ∷ t) ++ r) (nak_by v (place_of k (0x15 ∷ x ∷ t)))
-      go (Asked a) e = size_below a.position _ (resume-parts _ a e).position
-      go Nothing e = tt
+      go : (v : Option Resume) → resume_read (data_of k (0x15 ∷ x ∷ t)) ≡ v → Keeps ((0x15 ∷ x ∷ t) ++ r) (nak_by v (place_of k (0x15 ∷ x ∷ t)))
+      go (Some a) e = size_below a.position _ (resume-parts _ a e).position
+      go None e = tt
 
   acknowledge-keeps : (b : List ℕ) → Keeps b (acknowledge_of x)
   unfolding acknowledge_of Keeps

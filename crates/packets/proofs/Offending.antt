@@ -1,4 +1,7 @@
 -- A malformed header carries what is wrong, and where. (Change request 2026-02.) Assumes nothing.
+use Rattle.packets.specs.declared.Header.{Header}
+use Rattle.packets.specs.declared.Resume.{Resume}
+use Rattle.std.specs.Prelude.{None, Option, Some}
 use mathlib.Core.Path.{◌≡◌, refl, sym, ap, ◌∙◌}
 use mathlib.Core.Bool.{Bool, false}
 use mathlib.Core.List.{List, [], ◌∷◌}
@@ -11,18 +14,12 @@ use Rattle.fields.specs.declared.Flaw.TheVariants.{NameOpen}
 use Rattle.fields.specs.declared.Place.{Place}
 use Rattle.fields.specs.Lists.{up_to}
 use Rattle.fields.proofs.Lists.{never, either}
-use Rattle.faults.specs.declared.Check.{Check}
-use Rattle.faults.specs.declared.Check.TheVariants.{Sound, Faulty}
 use Rattle.faults.specs.Faults.{end_of, check_from, check_header, fault_in, is_sound}
 use Rattle.faults.specs.Search.{header_faults}
 use Rattle.faults.specs.Place.{FirstOffending}
 use Rattle.faults.proofs.LeastHeader.{least-header}
 use Rattle.faults.proofs.Place.{short-header, place-header}
 use Rattle.faults.proofs.Offending.{first-offending}
-use Rattle.packets.specs.declared.HeaderRead.{HeaderRead}
-use Rattle.packets.specs.declared.HeaderRead.TheVariants.{Good, Bad}
-use Rattle.packets.specs.declared.ResumeRead.{ResumeRead}
-use Rattle.packets.specs.declared.ResumeRead.TheVariants.{Asked, Nothing}
 use Rattle.packets.specs.declared.spans.Span.{Span}
 use Rattle.packets.specs.declared.spans.Span.TheVariants.{Open as Unfinished, Whole, Drop}
 use Rattle.packets.specs.declared.Packet.{Packet}
@@ -59,10 +56,10 @@ module _ (checked : Bool) (f : Fault) (d : List ℕ) where
       either Owes (eqb b 4) AT _ (λ _. no AT (λ h. omega arith)) (λ _.
       either Owes (eqb b 5) CA RT (λ _. no CA (λ h. omega arith)) (λ _. no RT (λ h. omega arith))))))
 
-  refuses : (r : ResumeRead) (p : Place) → Owes (nak_by r p)
+  refuses : (r : Option Resume) (p : Place) → Owes (nak_by r p)
   unfolding kind_of content_of
-  refuses (Asked r) p = no (RE r) (λ h. omega arith)
-  refuses Nothing p = no (NR p) (λ h. omega arith)
+  refuses (Some r) p = no (RE r) (λ h. omega arith)
+  refuses None p = no (NR p) (λ h. omega arith)
 
   whole : (b : List ℕ) → data_of checked b ≡ d → Owes (whole_of checked b)
   unfolding whole_of kind_of content_of
@@ -91,21 +88,21 @@ malformed-data checked b f e = go (span checked b) e
 -- ---- From the data to the fault
 
 -- the table has found what the packet carries
-pub malformed-fault : (d : List ℕ) (f : Fault) → header_packet d ≡ Malformed f → check_header d ≡ Faulty f
+pub malformed-fault : (d : List ℕ) (f : Fault) → header_packet d ≡ Malformed f → check_header d ≡ Some f
 unfolding kind_of content_of fault_of
 malformed-fault d f e = go (header_read d) refl (check_header d) refl
   where
-    go : (v : HeaderRead) → header_read d ≡ v → (c : Check) → check_header d ≡ c → c ≡ Faulty f
-    go (Good h) p c q = let z = ap kind (sym (ap (header_by d) p) ∙ e) in absurd (omega arith)
-    go Bad p Sound q = never (sym (ap is_good p) ∙ agrees-header d ∙ ap is_sound q)
-    go Bad p (Faulty g) q =
-        ap (λ (x : Packet). Faulty (fault_of (content_of [] x)))
-        (sym (ap (λ (c : Check). Malformed (fault_in c)) q) ∙ sym (ap (header_by d) p) ∙ e)
+    go : (v : Option Header) → header_read d ≡ v → (c : Option Fault) → check_header d ≡ c → c ≡ Some f
+    go (Some h) p c q = let z = ap kind (sym (ap (header_by d) p) ∙ e) in absurd (omega arith)
+    go None p None q = never (sym (ap is_good p) ∙ agrees-header d ∙ ap is_sound q)
+    go None p (Some g) q =
+        ap (λ (x : Packet). Some (fault_of (content_of [] x)))
+        (sym (ap (λ (c : Option Fault). Malformed (fault_in c)) q) ∙ sym (ap (header_by d) p) ∙ e)
 
 -- ---- The theorems, over the packet that callers are given
 
 module _ (checked : Bool) (b : List ℕ) (f : Fault) (e : packet_of checked b ≡ Malformed f) where
-  found : check_header (front_data checked b) ≡ Faulty f
+  found : check_header (front_data checked b) ≡ Some f
   found = malformed-fault (front_data checked b) f (malformed-data checked b f e)
 
   -- THE LAW: the place is that of the first offending byte in the header's data
@@ -118,7 +115,7 @@ module _ (checked : Bool) (b : List ℕ) (f : Fault) (e : packet_of checked b �
   short = short-header (front_data checked b) f found
 
   -- THE LAW: number and place are those of the fault that counts, each looked for by itself
-  pub least : header_faults (front_data checked b) ≡ Faulty f
+  pub least : header_faults (front_data checked b) ≡ Some f
   least = sym (least-header (front_data checked b)) ∙ found
 
 -- ---- There are such packets: 01 00, a header without data

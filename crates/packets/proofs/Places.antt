@@ -1,5 +1,7 @@
 -- The places of a packet lie within its own bytes, so bytes behind it change nothing of what it says.
 -- Assumes nothing.
+use Rattle.packets.specs.declared.Resume.{Resume}
+use Rattle.std.specs.Prelude.{None, Option, Some, ℕ}
 use mathlib.Core.Path.{◌≡◌, refl}
 use mathlib.Core.Bool.{Bool, true, false}
 use mathlib.Core.List.{List, [], ◌∷◌, ◌++◌}
@@ -8,8 +10,6 @@ use native.Mathlib.Omega.{arith}
 use lib.ListN.{length, get_or, take, drop, length-take}
 use lib.Seq.{length-take-le, take-append-le}
 use lib.Dec.{ltb, eqb}
-use Rattle.numbers.specs.declared.Number.{Number}
-use Rattle.numbers.specs.declared.Number.TheVariants.{Value, Malformed as NoNumber}
 use Rattle.fields.specs.Pick.{pick}
 use Rattle.fields.specs.Lists.{up_to, bytes_at}
 use Rattle.fields.specs.Name.{is_name}
@@ -17,9 +17,6 @@ use Rattle.numbers.specs.Reading.{read_size}
 use Rattle.fields.specs.declared.Place.{Place}
 use Rattle.packets.specs.declared.spans.Span.{Span}
 use Rattle.packets.specs.declared.spans.Span.TheVariants.{Open, Whole, Drop}
-use Rattle.packets.specs.declared.HeaderRead.TheVariants.{Bad}
-use Rattle.packets.specs.declared.ResumeRead.{ResumeRead}
-use Rattle.packets.specs.declared.ResumeRead.TheVariants.{Asked, Nothing}
 use Rattle.packets.specs.declared.Packet.{Packet}
 use Rattle.packets.specs.declared.Packet.TheVariants.{RR, RF, AF, AT, CA, RT, SI, RI}
 use Rattle.packets.specs.Span.{place_at, size_of}
@@ -43,22 +40,22 @@ place_same m p h q t le = part_same q t p.start p.len (omega arith)
 
 -- ---- a header's name
 
-sized_inside : (d : List ℕ) (m n : ℕ) (v : Number) (o : List ℕ) → n ≤ m - 2 → Inside m (header_by d (sized_by n v o))
+sized_inside : (d : List ℕ) (m n : ℕ) (v : Option ℕ) (o : List ℕ) → n ≤ m - 2 → Inside m (header_by d (sized_by n v o))
 unfolding content_of
-sized_inside d m n (Value v) o h q t le = rw (place_same m (record { start = 2; len = n }) h q t le)
-sized_inside d m n NoNumber o h q t le = refl
+sized_inside d m n (Some v) o h q t le = rw (place_same m (record { start = 2; len = n }) h q t le)
+sized_inside d m n None o h q t le = refl
 
 size-inside : (d : List ℕ) (m n : ℕ) (t : List ℕ) → n ≤ m - 2 → Inside m (header_by d (header_size n t))
 unfolding content_of header_size
 size-inside d m n t h =
-    either (λ r. Inside m (header_by d r)) (ltb (length (up_to 0 t)) (length t)) _ Bad
+    either (λ r. Inside m (header_by d r)) (ltb (length (up_to 0 t)) (length t)) _ None
     (sized_inside d m n (read_size (up_to 0 t)) (drop (length (up_to 0 t) + 1) t) h) (λ q u le. refl)
 
 header-inside : (m : ℕ) (d : List ℕ) → length d ≤ m - 2 → Inside m (header_packet d)
 unfolding content_of header_read
 header-inside m d h =
-    either (λ r. Inside m (header_by d r)) (ltb (length (up_to 0 d)) (length d)) _ Bad
-    (either (λ r. Inside m (header_by d r)) (is_name (up_to 0 d)) _ Bad
+    either (λ r. Inside m (header_by d r)) (ltb (length (up_to 0 d)) (length d)) _ None
+    (either (λ r. Inside m (header_by d r)) (is_name (up_to 0 d)) _ None
     (size-inside d m (length (up_to 0 d)) (drop (length (up_to 0 d) + 1) d) (omega (arith, up_to-le 0 d))) (λ q t le. refl)) (λ q t le. refl)
 
 -- ---- the others
@@ -71,10 +68,10 @@ data-short : (k : Bool) (b : List ℕ) → length (data_of k b) ≤ length b - 2
 unfolding place_at
 data-short k b = simp length-take (omega (arith, lead-least (get_or b 0 0) (get_or b 1 0)))
 
-nak-inside : (m : ℕ) (r : ResumeRead) (p : Place) → p.len ≤ m - p.start → Inside m (nak_by r p)
+nak-inside : (m : ℕ) (r : Option Resume) (p : Place) → p.len ≤ m - p.start → Inside m (nak_by r p)
 unfolding content_of
-nak-inside m (Asked r) p h q t le = refl
-nak-inside m Nothing p h q t le = rw (place_same m p h q t le)
+nak-inside m (Some r) p h q t le = refl
+nak-inside m None p h q t le = rw (place_same m p h q t le)
 
 acknowledge-inside : (m b : ℕ) → Inside m (acknowledge_of b)
 unfolding content_of acknowledge_of

@@ -1,5 +1,7 @@
 -- What is written is one whole packet, in the form that we write, and reads back as the same packet.
 -- Assumes nothing.
+use Rattle.packets.specs.declared.Resume.{Resume}
+use Rattle.std.specs.Prelude.{None, Option, Some, ℕ}
 use mathlib.Core.Path.{◌≡◌, refl, sym, ap, ◌∙◌}
 use mathlib.Core.Bool.{Bool, true, false, not}
 use mathlib.Core.List.{List, [], ◌∷◌, ◌++◌, append_assoc, append-nil}
@@ -9,8 +11,6 @@ use native.Mathlib.Omega.{arith}
 use lib.ListN.{length, take, length-append}
 use lib.Seq.{take_all, take_at, get_or_at}
 use borrow.Author.Tests.{lt-ltb, le-ltb, eq-eqb, ne_eqb, leb-true}
-use Rattle.fields.specs.declared.Stamp.{Stamp}
-use Rattle.fields.specs.declared.Stamp.TheVariants.{Present, Absent}
 use Rattle.fields.specs.Pick.{pick}
 use Rattle.fields.specs.Name.{is_name_byte, is_name}
 use Rattle.numbers.specs.Writing.{decimal, hex}
@@ -20,9 +20,6 @@ use Rattle.numbers.proofs.numerals.Writing.{hex-length}
 use Rattle.numbers.proofs.RoundTrip.{decimal-plain, read-size, read-hex, decimal-length}
 use Rattle.numbers.proofs.Canonical.{decimal-free, hex-capitals}
 use Rattle.packets.specs.declared.spans.Span.TheVariants.{Whole}
-use Rattle.packets.specs.declared.HeaderRead.TheVariants.{Good}
-use Rattle.packets.specs.declared.ResumeRead.{ResumeRead}
-use Rattle.packets.specs.declared.ResumeRead.TheVariants.{Asked, Nothing}
 use Rattle.packets.specs.Span.{known, paired, data_length, counted, total, span, lead, trail, place_at}
 use Rattle.packets.specs.Packet.{stamp_of, header_size, header_read, resume_mode, resume_digits, resume_read, checksum, is_sound, acknowledge_of, whole_of, packet_of}
 use Rattle.packets.specs.Content.{Content, rr, rf, af, at, ca, rt, si, ef, et, ri, nr, cn, tx, hd, malformed, dt, re, dropped, unfinished, content_of, stamp_data, stamp_fits, header_data, header_form, block_form, is_asked, refusal_form, resume_data, resume_form, request_form, form_of}
@@ -32,41 +29,41 @@ use Rattle.packets.proofs.Whole.{Framed, framed-whole, packet-whole, counted-fra
 
 -- ---- The data of HD
 
-stamp-back : (s : Stamp) → stamp_fits s ≡ true → stamp_of (stamp_data s) ≡ s
+stamp-back : (s : Option ℕ) → stamp_fits s ≡ true → stamp_of (stamp_data s) ≡ s
 unfolding stamp_of stamp_data
-stamp-back (Present v) h =
+stamp-back (Some v) h =
     let l : length (hex 8 v ++ (0 ∷ [])) ≡ 9 = simp (length-append, hex-length) in
     let b = leb-true v 0xFFFFFFFF h in
     rw (eq-eqb _ 9 l, get_or_at (hex 8 v) 0 [] 0 8 (hex-length 8 v), take_at (hex 8 v) (0 ∷ []) 8 (hex-length 8 v), read-hex v (omega arith))
-stamp-back Absent h = refl
+stamp-back None h = refl
 
-stamp-length : (s : Stamp) → length (stamp_data s) ≤ 9
+stamp-length : (s : Option ℕ) → length (stamp_data s) ≤ 9
 unfolding stamp_data
-stamp-length (Present v) = rw (length-append, hex-length 8 v) (omega arith)
-stamp-length Absent = omega arith
+stamp-length (Some v) = rw (length-append, hex-length 8 v) (omega arith)
+stamp-length None = omega arith
 
-option-form : (s : Stamp) → stamp_fits s ≡ true → option_in_form (stamp_data s) ≡ true
+option-form : (s : Option ℕ) → stamp_fits s ≡ true → option_in_form (stamp_data s) ≡ true
 unfolding option_in_form stamp_data
-option-form (Present v) h =
+option-form (Some v) h =
     let l : length (hex 8 v ++ (0 ∷ [])) ≡ 9 = simp (length-append, hex-length) in
     let t : take 8 (hex 8 v ++ (0 ∷ [])) ≡ hex 8 v = take_at (hex 8 v) (0 ∷ []) 8 (hex-length 8 v) in
-    rw (ne_eqb (length (hex 8 v ++ (0 ∷ []))) 0 (omega arith), stamp-back (Present v) h, t, hex-capitals 8 v)
-option-form Absent h = refl
+    rw (ne_eqb (length (hex 8 v ++ (0 ∷ []))) 0 (omega arith), stamp-back (Some v) h, t, hex-capitals 8 v)
+option-form None h = refl
 
 -- name 00, and behind it size 00 option
-pub header-cut : (name : List ℕ) (size : ℕ) (stamp : Stamp) → header_data name size stamp ≡ name ++ (0 ∷ (decimal size ++ (0 ∷ stamp_data stamp)))
+pub header-cut : (name : List ℕ) (size : ℕ) (stamp : Option ℕ) → header_data name size stamp ≡ name ++ (0 ∷ (decimal size ++ (0 ∷ stamp_data stamp)))
 unfolding header_data
 header-cut name size stamp = simp append_assoc
 
-module _ (name : List ℕ) (size : ℕ) (stamp : Stamp) (n : is_name name ≡ true) (h : size ≤ 99999999) (f : stamp_fits stamp ≡ true) where
-  size_back : (i : ℕ) → header_size i (decimal size ++ (0 ∷ stamp_data stamp)) ≡ Good (record { name = record { start = 2; len = i }; size = size; stamp = stamp })
+module _ (name : List ℕ) (size : ℕ) (stamp : Option ℕ) (n : is_name name ≡ true) (h : size ≤ 99999999) (f : stamp_fits stamp ≡ true) where
+  size_back : (i : ℕ) → header_size i (decimal size ++ (0 ∷ stamp_data stamp)) ≡ Some (record { name = record { start = 2; len = i }; size = size; stamp = stamp })
   unfolding header_size
   size_back i =
       let o = stamp_data stamp in
       let c = cut-before 0 (decimal size) o (decimal-free 0 size refl) in
       rw (c, lt-ltb _ _ (cut_inside 0 (decimal size) o), read-size size h, cut-behind 0 (decimal size) o, stamp-back stamp f)
 
-  pub header-back : header_read (header_data name size stamp) ≡ Good (record { name = record { start = 2; len = length name }; size = size; stamp = stamp })
+  pub header-back : header_read (header_data name size stamp) ≡ Some (record { name = record { start = 2; len = length name }; size = size; stamp = stamp })
   unfolding header_read is_name_byte
   header-back =
       let r = decimal size ++ (0 ∷ stamp_data stamp) in
@@ -79,7 +76,7 @@ module _ (name : List ℕ) (size : ℕ) (stamp : Stamp) (n : is_name name ≡ tr
       rw header-cut
       (simp length-append (omega (arith, name-length name n, decimal-length 7 size (omega arith) (omega arith), stamp-length stamp)))
 
-header-form : (name : List ℕ) (size : ℕ) (stamp : Stamp) → is_name name ≡ true → size ≤ 99999999 → stamp_fits stamp ≡ true
+header-form : (name : List ℕ) (size : ℕ) (stamp : Option ℕ) → is_name name ≡ true → size ≤ 99999999 → stamp_fits stamp ≡ true
     → header_in_form (header_data name size stamp) ≡ true
 unfolding header_in_form is_name_byte
 header-form name size stamp n h f =
@@ -99,14 +96,14 @@ header-form name size stamp n h f =
 -- ---- The data of RE
 
 module _ (p : ℕ) (h : p ≤ 99999999) where
-  pub resume-back : (c : Bool) → resume_read (resume_data p c) ≡ Asked (record { position = p; checked = c })
+  pub resume-back : (c : Bool) → resume_read (resume_data p c) ≡ Some (record { position = p; checked = c })
   unfolding resume_read resume_data resume_digits resume_mode
   resume-back c =
       let o : List ℕ = pick c (67 ∷ 0 ∷ []) [] in
       let e = cut-before 0 (decimal p) o (decimal-free 0 p refl) in
       rw (le-ltb (length (resume_data p c)) 2 (omega arith), e, lt-ltb _ _ (cut_inside 0 (decimal p) o), read-size p h, cut-behind 0 (decimal p) o) (mode c)
     where
-      mode : (c : Bool) → resume_mode p (pick c (67 ∷ 0 ∷ []) []) ≡ Asked (record { position = p; checked = c })
+      mode : (c : Bool) → resume_mode p (pick c (67 ∷ 0 ∷ []) []) ≡ Some (record { position = p; checked = c })
       mode true = refl
       mode false = refl
 
@@ -153,9 +150,9 @@ pair k c a b bs e s p t w f =
     let q : a ∷ b ∷ [] ≡ bs = cc in
     rw (← q) (record { frame = record { two = omega arith; starts = s; pairs = p; ends = t }; fits = omega arith; says = w; form = f })
 
-not-asked : (r : ResumeRead) → not (is_asked r) ≡ true → r ≡ Nothing
-not-asked (Asked r) h = let z : ◌≡◌ {A = ℕ} 0 1 = cc in absurd (omega arith)
-not-asked Nothing h = refl
+not-asked : (r : Option Resume) → not (is_asked r) ≡ true → r ≡ None
+not-asked (Some r) h = let z : ◌≡◌ {A = ℕ} 0 1 = cc in absurd (omega arith)
+not-asked None h = refl
 
 abbrev block_bytes : Bool → List ℕ → List ℕ
 block_bytes k d = (2 ∷ length d % 256 ∷ d) ++ pick k (checksum d ∷ []) []
@@ -188,12 +185,12 @@ block_reads k d h g =
       form = block-sound k d;
     }
 
-refusal-form : (s : List ℕ) → resume_read s ≡ Nothing → nak_in_form s ≡ true
+refusal-form : (s : List ℕ) → resume_read s ≡ None → nak_in_form s ≡ true
 unfolding nak_in_form
 refusal-form s e = rw e
 
 module _ (k : Bool) where
-  header-reads : (name : List ℕ) (size : ℕ) (stamp : Stamp) → is_name name ≡ true → size ≤ 99999999 → stamp_fits stamp ≡ true
+  header-reads : (name : List ℕ) (size : ℕ) (stamp : Option ℕ) → is_name name ≡ true → size ≤ 99999999 → stamp_fits stamp ≡ true
       → Reads k (hd name size stamp) (1 ∷ length (header_data name size stamp) ∷ header_data name size stamp)
   unfolding whole_of content_of counted in_form
   header-reads name size stamp n h f =
@@ -207,7 +204,7 @@ module _ (k : Bool) where
         form = rw (counted-data k 1 d refl) (header-form name size stamp n h f);
       }
 
-  refusal-reads : (s : List ℕ) → length s ≤ 255 → resume_read s ≡ Nothing → Reads k (nr s) (0x15 ∷ length s ∷ s)
+  refusal-reads : (s : List ℕ) → length s ≤ 255 → resume_read s ≡ None → Reads k (nr s) (0x15 ∷ length s ∷ s)
   unfolding whole_of content_of counted in_form
   refusal-reads s h e = record {
     frame = counted-framed k 0x15 s refl;

@@ -1,5 +1,6 @@
 -- A whole packet in the form that we write is written back unchanged.
 -- Assumes nothing.
+use Rattle.std.specs.Prelude.{None, Option, Some, ℕ}
 use mathlib.Core.Path.{◌≡◌, refl, sym, ap, ◌∙◌}
 use mathlib.Core.Bool.{Bool, true, false, ◌&&◌, ◌||◌}
 use mathlib.Core.List.{List, [], ◌∷◌, ◌++◌, append-nil}
@@ -9,8 +10,6 @@ use lib.Dec.{leb, eqb}
 use lib.ListN.{length, take, drop, get_or, take-append-drop, drop_of_length-le}
 use lib.Seq.{length-take-le, drop-cons}
 use borrow.Author.Tests.{le-leb, ne_eqb, leb-true, eqb-true, eqb-false}
-use Rattle.fields.specs.declared.Stamp.{Stamp}
-use Rattle.fields.specs.declared.Stamp.TheVariants.{Present, Absent}
 use Rattle.fields.specs.Pick.{pick}
 use Rattle.numbers.specs.Canonical.{plain, capitals, is_byte}
 use Rattle.fields.specs.Lists.{all, up_to}
@@ -20,11 +19,7 @@ use Rattle.fields.proofs.Lists.{both, up_to-cut}
 use Rattle.numbers.proofs.RoundTrip.{size_back, hex-back}
 use Rattle.numbers.proofs.Reading.{size_below}
 use Rattle.packets.specs.declared.spans.Span.TheVariants.{Whole}
-use Rattle.packets.specs.declared.HeaderRead.TheVariants.{Good, Bad}
-use Rattle.packets.specs.declared.ResumeRead.{ResumeRead}
-use Rattle.packets.specs.declared.ResumeRead.TheVariants.{Asked, Nothing}
 use Rattle.packets.specs.declared.Header.{Header}
-use Rattle.packets.specs.declared.HeaderRead.{HeaderRead}
 use Rattle.packets.specs.declared.Resume.{Resume}
 use Rattle.packets.specs.Span.{paired, data_length, counted, total, span, lead, trail, place_at}
 use Rattle.packets.specs.Packet.{stamp_of, header_read, resume_read, checksum, is_sound, data_of, packet_of}
@@ -45,7 +40,7 @@ last-is n c s l e =
     let d : drop n s ≡ c ∷ [] = drop-cons s n 0 (omega arith) ∙ rw (← e, drop_of_length-le s {i = suc n} (omega arith)) in
     ap (λ (r : List ℕ). take n s ++ r) (sym d) ∙ take-append-drop n s
 
-present-back : (o : List ℕ) (v : ℕ) → stamp_of o ≡ Present v → capitals (take 8 o) ≡ true → hex 8 v ++ (0 ∷ []) ≡ o
+present-back : (o : List ℕ) (v : ℕ) → stamp_of o ≡ Some v → capitals (take 8 o) ≡ true → hex 8 v ++ (0 ∷ []) ≡ o
 present-back o v e c =
     let p = stamp-parts o v e in
     rw (hex-back v (take 8 o) p.digits c) (last-is 8 0 o p.nine (sym p.last))
@@ -55,9 +50,9 @@ unfolding option_in_form stamp_data stamp_of
 option_back [] h = refl
 option_back (c ∷ o) h = go (stamp_of (c ∷ o)) refl (rw (ne_eqb (suc (length o)) 0 (omega arith)) at h)
   where
-    go : (s : Stamp) → stamp_of (c ∷ o) ≡ s → is_present (stamp_of (c ∷ o)) && capitals (take 8 (c ∷ o)) ≡ true → stamp_data (stamp_of (c ∷ o)) ≡ c ∷ o
-    go (Present v) e h = rw e (present-back (c ∷ o) v e (both (is_present (stamp_of (c ∷ o))) (capitals (take 8 (c ∷ o))) h).1)
-    go Absent e h = never (rw e at (both (is_present (stamp_of (c ∷ o))) (capitals (take 8 (c ∷ o))) h).0)
+    go : (s : Option ℕ) → stamp_of (c ∷ o) ≡ s → is_present (stamp_of (c ∷ o)) && capitals (take 8 (c ∷ o)) ≡ true → stamp_data (stamp_of (c ∷ o)) ≡ c ∷ o
+    go (Some v) e h = rw e (present-back (c ∷ o) v e (both (is_present (stamp_of (c ∷ o))) (capitals (take 8 (c ∷ o))) h).1)
+    go None e h = never (rw e at (both (is_present (stamp_of (c ∷ o))) (capitals (take 8 (c ∷ o))) h).0)
 
 header-data : (d : List ℕ) (h : Header) → HeaderParts d h → plain (up_to 0 (behind d)) ≡ true → option_in_form (behind (behind d)) ≡ true
     → header_data (up_to 0 d) h.size h.stamp ≡ d
@@ -86,10 +81,10 @@ module _ (k : Bool) (d : List ℕ) where
       let g = both (is_good (header_read d)) (plain (up_to 0 (behind d)) && option_in_form (behind (behind d))) h in
       go (header_read d) refl g.0 (both _ _ g.1)
     where
-      go : (r : HeaderRead) → header_read d ≡ r → is_good (header_read d) ≡ true
+      go : (r : Option Header) → header_read d ≡ r → is_good (header_read d) ≡ true
           → (plain (up_to 0 (behind d)) ≡ true) × (option_in_form (behind (behind d)) ≡ true) → Written k (1 ∷ length d ∷ d)
-      go Bad e g f = never (rw e at g)
-      go (Good v) e g f =
+      go None e g f = never (rw e at g)
+      go (Some v) e g f =
           let p = header-parts d v e in
           let q = header-data d v p f.0 f.1 in
           record {
@@ -101,12 +96,12 @@ module _ (k : Bool) (d : List ℕ) where
   unfolding form_of refusal_form resume_form nak_in_form
   nak-written l h = go (resume_read d) refl
     where
-      go : (r : ResumeRead) → resume_read d ≡ r → Written k (0x15 ∷ length d ∷ d)
-      go (Asked r) e =
+      go : (r : Option Resume) → resume_read d ≡ r → Written k (0x15 ∷ length d ∷ d)
+      go (Some r) e =
           let p = resume-parts d r e in
           let q = resume-data d r p (rw e at h) in
           record { content = re r.position r.checked; form = rw (q, le-leb r.position 99999999 (size_below r.position _ p.position)) }
-      go Nothing e = record { content = nr d; form = rw (e, le-leb (length d) 255 l) }
+      go None e = record { content = nr d; form = rw (e, le-leb (length d) 255 l) }
 
   cancel-written : length d ≤ 255 → Written k (0x18 ∷ length d ∷ d)
   unfolding form_of

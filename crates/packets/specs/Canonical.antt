@@ -1,12 +1,11 @@
 -- The form that we write packets in. Reading takes more: leading zeros, hex digits of either case, other options. (Document 01, "Packets of
 -- YAPP": digits are written without a leading zero, hex in capitals.)
-use Rattle.std.specs.Prelude.{ℕ, ◌+◌, List, Bool, true, false, not, ◌&&◌, ◌||◌, length, get_or, take, drop, eqb}
+use Rattle.packets.specs.declared.Header.{Header}
+use Rattle.std.specs.Prelude.{ℕ, ◌+◌, List, Bool, true, false, not, ◌&&◌, ◌||◌, length, get_or, take, drop, eqb, None, Option, Some}
 use Rattle.fields.specs.Pick.{pick}
 use Rattle.fields.specs.Lists.{up_to}
 use Rattle.numbers.specs.Canonical.{plain, capitals}
 pub use Rattle.fields.specs.Stamps.{is_present}
-use Rattle.packets.specs.declared.HeaderRead.{HeaderRead}
-use Rattle.packets.specs.declared.HeaderRead.TheVariants.{Good, Bad}
 use Rattle.packets.specs.Packet.{stamp_of, header_read, resume_read, is_sound, place_of, data_of}
 use Rattle.packets.specs.Content.{Content, is_asked}
 use Rattle.packets.specs.Kind.{DT, kind_of}
@@ -15,9 +14,9 @@ use Rattle.packets.specs.Kind.{DT, kind_of}
 abbrev pub behind : List ℕ → List ℕ
 behind s = drop (length (up_to 0 s) + 1) s
 
-abbrev pub is_good : HeaderRead → Bool
-is_good (Good h) = true
-is_good Bad = false
+abbrev pub is_good : Option Header → Bool
+is_good (Some h) = true
+is_good None = false
 
 -- an option that we write: nothing, or a stamp in capitals
 unfoldable pub option_in_form : List ℕ → Bool

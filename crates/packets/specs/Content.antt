@@ -1,16 +1,13 @@
 -- Packets with their bytes, and the bytes that each is written as. (Document 01, "Packets of YAPP".)
-use Rattle.std.specs.Prelude.{ℕ, ◌%◌, List, [], ◌∷◌, ◌++◌, Bool, true, false, not, ◌&&◌, length, leb}
+use Rattle.packets.specs.declared.Resume.{Resume}
+use Rattle.std.specs.Prelude.{ℕ, ◌%◌, List, [], ◌∷◌, ◌++◌, Bool, true, false, not, ◌&&◌, length, leb, None, Option, Some}
 use Rattle.fields.specs.Pick.{pick}
 use Rattle.fields.specs.Lists.{bytes_at}
 use Rattle.fields.specs.Name.{is_name}
 use Rattle.numbers.specs.Writing.{decimal, hex}
 use Rattle.fields.specs.Buffer.{Form, formless, bytes, form_if}
 use Rattle.fields.specs.declared.Fault.{Fault}
-use Rattle.fields.specs.declared.Stamp.{Stamp}
-use Rattle.fields.specs.declared.Stamp.TheVariants.{Present, Absent}
 pub use Rattle.fields.specs.Stamps.{stamp_fits}
-use Rattle.packets.specs.declared.ResumeRead.{ResumeRead}
-use Rattle.packets.specs.declared.ResumeRead.TheVariants.{Asked, Nothing}
 use Rattle.packets.specs.declared.Packet.{Packet}
 use Rattle.packets.specs.declared.Packet.TheVariants.{RR, RF, AF, AT, CA, RT, SI, RI, HD, Malformed, DT, EF, ET, NR, RE, CN, TX, Dropped, Open}
 use Rattle.packets.specs.Packet.{resume_read, checksum}
@@ -19,7 +16,7 @@ use Rattle.packets.specs.Packet.{resume_read, checksum}
 pub data Content : Type 0 where
   rr rf af at ca rt si ef et : Content
   ri nr cn tx : List ℕ → Content
-  hd : List ℕ → ℕ → Stamp → Content
+  hd : List ℕ → ℕ → Option ℕ → Content
   malformed : Fault → Content
   dt : List ℕ → Bool → Content
   re : ℕ → Bool → Content
@@ -53,16 +50,16 @@ abbrev pub counted_form : ℕ → List ℕ → Form
 counted_form lead s = form_if (leb (length s) 255) (lead ∷ length s ∷ s)
 
 -- the option: the stamp in eight hex digits and 00, or nothing
-unfoldable pub stamp_data : Stamp → List ℕ
-stamp_data (Present v) = hex 8 v ++ (0 ∷ [])
-stamp_data Absent = []
+unfoldable pub stamp_data : Option ℕ → List ℕ
+stamp_data (Some v) = hex 8 v ++ (0 ∷ [])
+stamp_data None = []
 
 -- name 00 size 00 option
-unfoldable pub header_data : List ℕ → ℕ → Stamp → List ℕ
+unfoldable pub header_data : List ℕ → ℕ → Option ℕ → List ℕ
 header_data name size stamp = (((name ++ (0 ∷ [])) ++ decimal size) ++ (0 ∷ [])) ++ stamp_data stamp
 
 -- HD: 01 len name 00 size 00 option, with name and numbers within the limits
-unfoldable pub header_form : List ℕ → ℕ → Stamp → Form
+unfoldable pub header_form : List ℕ → ℕ → Option ℕ → Form
 header_form name size stamp =
     form_if (is_name name && (leb size 99999999 && stamp_fits stamp))
     (1 ∷ length (header_data name size stamp) ∷ header_data name size stamp)
@@ -73,9 +70,9 @@ block_form checked d =
     form_if (leb 1 (length d) && leb (length d) 256)
     ((2 ∷ length d % 256 ∷ d) ++ pick checked (checksum d ∷ []) [])
 
-abbrev pub is_asked : ResumeRead → Bool
-is_asked (Asked r) = true
-is_asked Nothing = false
+abbrev pub is_asked : Option Resume → Bool
+is_asked (Some r) = true
+is_asked None = false
 
 -- NR: 15 len reason; a reason that would read as a resume has no form
 unfoldable pub refusal_form : List ℕ → Form

@@ -1,12 +1,11 @@
 -- What HD, a malformed HD, DT and RE carry: of such a packet a function has its data; any other gives `other`.
-use Rattle.std.specs.Prelude.{ℕ, Bool, List}
+use Rattle.std.specs.Prelude.{ℕ, Bool, List, Option}
 use Rattle.fields.specs.declared.Fault.{Fault}
-use Rattle.fields.specs.declared.Stamp.{Stamp}
 use Rattle.fields.specs.Faults.{no_fault}
 use Rattle.packets.specs.Content.{Content, rr, rf, af, at, ca, rt, si, ef, et, ri, nr, cn, tx, hd, malformed, dt, re, dropped, unfinished}
 
 -- h has an HD's data, w what is wrong with a malformed one, d a DT's data, r an RE's
-abbrev pub on_data : {A : Type 0} → Content → (List ℕ → ℕ → Stamp → A) → (Fault → A) → (List ℕ → Bool → A) → (ℕ → Bool → A) → A → A
+abbrev pub on_data : {A : Type 0} → Content → (List ℕ → ℕ → Option ℕ → A) → (Fault → A) → (List ℕ → Bool → A) → (ℕ → Bool → A) → A → A
 on_data rr h w d r other = other
 on_data rf h w d r other = other
 on_data af h w d r other = other
@@ -28,7 +27,7 @@ on_data (dropped n) h w d r other = other
 on_data unfinished h w d r other = other
 
 -- HD: name, size, stamp
-unfoldable pub on_header : {A : Type 0} → Content → (List ℕ → ℕ → Stamp → A) → A → A
+unfoldable pub on_header : {A : Type 0} → Content → (List ℕ → ℕ → Option ℕ → A) → A → A
 on_header c f other = on_data c f (λ w. other) (λ d sound. other) (λ position checked. other) other
 
 -- DT: data, and whether the checksum agrees

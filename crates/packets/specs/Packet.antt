@@ -1,8 +1,8 @@
 -- What the bytes of one packet say. (Document 01, "Packets of YAPP".)
-use Rattle.std.specs.Prelude.{ℕ, ◌+◌, ◌%◌, Bool, true, false, length, get_or, take, drop, ltb, eqb}
+use Rattle.packets.specs.declared.Resume.{Resume}
+use Rattle.packets.specs.declared.Header.{Header}
+use Rattle.std.specs.Prelude.{ℕ, ◌+◌, ◌%◌, Bool, true, false, length, get_or, take, drop, ltb, eqb, None, Option, Some}
 use mathlib.Core.List.{List, [], sum}
-use Rattle.numbers.specs.declared.Number.{Number}
-use Rattle.numbers.specs.declared.Number.TheVariants.{Value, Malformed as NoNumber}
 use Rattle.fields.specs.Pick.{pick}
 use Rattle.fields.specs.Lists.{bytes_at, up_to}
 use Rattle.fields.specs.Name.{is_name}
@@ -12,43 +12,37 @@ use Rattle.packets.specs.Span.{span, place_at}
 use Rattle.fields.specs.declared.Place.{Place}
 use Rattle.packets.specs.declared.spans.Span.{Span}
 use Rattle.packets.specs.declared.spans.Span.TheVariants.{Open as Unfinished, Whole, Drop}
-use Rattle.fields.specs.declared.Stamp.{Stamp}
-use Rattle.fields.specs.declared.Stamp.TheVariants.{Present, Absent}
-use Rattle.packets.specs.declared.HeaderRead.{HeaderRead}
-use Rattle.packets.specs.declared.HeaderRead.TheVariants.{Good, Bad}
-use Rattle.packets.specs.declared.ResumeRead.{ResumeRead}
-use Rattle.packets.specs.declared.ResumeRead.TheVariants.{Asked, Nothing}
 use Rattle.packets.specs.declared.Packet.{Packet}
 use Rattle.packets.specs.declared.Packet.TheVariants.{RR, RF, AF, AT, CA, RT, SI, RI, HD, Malformed, DT, EF, ET, NR, RE, CN, TX, Dropped, Open}
 
 -- ---- HD: 01 len name 00 size 00 option
 
-abbrev pub stamp_by : Number → Stamp
-stamp_by (Value v) = Present v
-stamp_by NoNumber = Absent
+abbrev pub stamp_by : Option ℕ → Option ℕ
+stamp_by (Some v) = Some v
+stamp_by None = None
 
 -- the option: exactly eight hex digits and 00 are the stamp, any other option is skipped
-unfoldable pub stamp_of : List ℕ → Stamp
-stamp_of o = pick (eqb (length o) 9) (pick (eqb (get_or o 8 0) 0) (stamp_by (read_hex (take 8 o))) Absent) Absent
+unfoldable pub stamp_of : List ℕ → Option ℕ
+stamp_of o = pick (eqb (length o) 9) (pick (eqb (get_or o 8 0) 0) (stamp_by (read_hex (take 8 o))) None) None
 
-abbrev pub sized_by : ℕ → Number → List ℕ → HeaderRead
-sized_by n (Value v) o = Good (record { name = record { start = 2; len = n }; size = v; stamp = stamp_of o })
-sized_by n NoNumber o = Bad
+abbrev pub sized_by : ℕ → Option ℕ → List ℕ → Option Header
+sized_by n (Some v) o = Some (record { name = record { start = 2; len = n }; size = v; stamp = stamp_of o })
+sized_by n None o = None
 
 -- behind a name of n bytes and its 00: the size, which is 1 to 8 digits, 00, the option
-unfoldable pub header_size : ℕ → List ℕ → HeaderRead
+unfoldable pub header_size : ℕ → List ℕ → Option Header
 header_size n t =
-    pick (ltb (length (up_to 0 t)) (length t)) (sized_by n (read_size (up_to 0 t)) (drop (length (up_to 0 t) + 1) t)) Bad
+    pick (ltb (length (up_to 0 t)) (length t)) (sized_by n (read_size (up_to 0 t)) (drop (length (up_to 0 t) + 1) t)) None
 
 -- a header's data: a name within the limits, 00, and the rest
-unfoldable pub header_read : List ℕ → HeaderRead
+unfoldable pub header_read : List ℕ → Option Header
 header_read d =
     pick (ltb (length (up_to 0 d)) (length d))
-    (pick (is_name (up_to 0 d)) (header_size (length (up_to 0 d)) (drop (length (up_to 0 d) + 1) d)) Bad) Bad
+    (pick (is_name (up_to 0 d)) (header_size (length (up_to 0 d)) (drop (length (up_to 0 d) + 1) d)) None) None
 
-abbrev pub header_by : List ℕ → HeaderRead → Packet
-header_by d (Good h) = HD h
-header_by d Bad = Malformed (header_fault d)
+abbrev pub header_by : List ℕ → Option Header → Packet
+header_by d (Some h) = HD h
+header_by d None = Malformed (header_fault d)
 
 -- the packet that a header with these data is; what is malformed carries what is wrong, and where (change request 2026-02)
 abbrev pub header_packet : List ℕ → Packet
@@ -57,29 +51,29 @@ header_packet d = header_by d (header_read d)
 -- ---- NR or RE: 15 len data
 
 -- behind a resume's digits and their 00: nothing, or `C` 00, nothing more
-unfoldable pub resume_mode : ℕ → List ℕ → ResumeRead
+unfoldable pub resume_mode : ℕ → List ℕ → Option Resume
 resume_mode v t =
-    pick (eqb (length t) 0) (Asked (record { position = v; checked = false }))
+    pick (eqb (length t) 0) (Some (record { position = v; checked = false }))
     (pick (eqb (length t) 2)
-    (pick (eqb (get_or t 0 0) 67) (pick (eqb (get_or t 1 0) 0) (Asked (record { position = v; checked = true })) Nothing) Nothing)
-    Nothing)
+    (pick (eqb (get_or t 0 0) 67) (pick (eqb (get_or t 1 0) 0) (Some (record { position = v; checked = true })) None) None)
+    None)
 
-abbrev pub resume_by : Number → List ℕ → ResumeRead
-resume_by (Value v) t = resume_mode v t
-resume_by NoNumber t = Nothing
+abbrev pub resume_by : Option ℕ → List ℕ → Option Resume
+resume_by (Some v) t = resume_mode v t
+resume_by None t = None
 
 -- behind `R` 00: 1 to 8 digits, 00, and the rest
-unfoldable pub resume_digits : List ℕ → ResumeRead
-resume_digits t = pick (ltb (length (up_to 0 t)) (length t)) (resume_by (read_size (up_to 0 t)) (drop (length (up_to 0 t) + 1) t)) Nothing
+unfoldable pub resume_digits : List ℕ → Option Resume
+resume_digits t = pick (ltb (length (up_to 0 t)) (length t)) (resume_by (read_size (up_to 0 t)) (drop (length (up_to 0 t) + 1) t)) None
 
 -- the data of a NAK: `R` 00, 1 to 8 digits, 00, and optionally `C` 00
-unfoldable pub resume_read : List ℕ → ResumeRead
-resume_read d = pick (ltb (length d) 2) Nothing (pick (eqb (get_or d 0 0) 82) (pick (eqb (get_or d 1 0) 0) (resume_digits (drop 2 d)) Nothing) Nothing)
+unfoldable pub resume_read : List ℕ → Option Resume
+resume_read d = pick (ltb (length d) 2) None (pick (eqb (get_or d 0 0) 82) (pick (eqb (get_or d 1 0) 0) (resume_digits (drop 2 d)) None) None)
 
 -- a NAK whose data are not a resume is a Not Ready
-abbrev pub nak_by : ResumeRead → Place → Packet
-nak_by (Asked r) p = RE r
-nak_by Nothing p = NR p
+abbrev pub nak_by : Option Resume → Place → Packet
+nak_by (Some r) p = RE r
+nak_by None p = NR p
 
 -- ---- DT: 02 len data, and in YappC the checksum
 

@@ -1,4 +1,4 @@
-// The kinds of packets as numbers, by which tables go.
+// The kinds of packets as numbers: the rows of the tables in the documents name them so.
 ghost use Rattle.std.specs.Prelude.{◌≡◌, [], ◌≤◌};
 ghost use Rattle.packets.specs.Content.{content_of};
 ghost use Rattle.packets.specs.Kind.{kind_of};
@@ -6,6 +6,7 @@ ghost use Rattle.packets.specs.Kind.{kind_of};
 use crate::Packet;
 
 // The number of a packet's kind, which does not depend on the bytes at its places.
+#[tactic(auto, unfolding(crate::specs::Kind::kind_of, crate::specs::Content::content_of))]
 pub fn kind_of(packet: Packet) -> usize
     ensures { (result ≡ kind_of (content_of [] packet)) × (result ≤ 18) }
 {

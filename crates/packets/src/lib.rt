@@ -1,11 +1,13 @@
 // YAPP packets: what their bytes say; where the data stand, and their checksum.
 #![tactic(auto)]
 
-ghost use Rattle.std.specs.Prelude.{◌≡◌};
+ghost use Rattle.std.specs.Prelude.{◌≡◌, ◌≤◌, ◌<◌, ◌+◌, length, drop};
+ghost use Rattle.std.specs.Option.{MatchOption};
+ghost use Rattle.fields.specs.Lists.{up_to};
 ghost use Rattle.packets.specs.Span.{lead as lead_of, trail as trail_of};
 ghost use Rattle.packets.specs.Packet.{checksum as checksum_of, place_of};
 
-use fields::{Fault, Place, Stamp};
+use fields::{Fault, Place};
 
 mod header_reader;
 pub mod kinds;
@@ -18,7 +20,8 @@ pub mod spans;
 pub struct Header {
     pub name: Place,
     pub size: u32,
-    pub stamp: Stamp,
+    // The DOS date times 65,536 plus the time, where there is one.
+    pub stamp: Option<u32>,
 }
 
 // What a resume asks for.
@@ -64,69 +67,49 @@ pub enum Packet {
     Open,
 }
 
-// What the data of a header say.
-#[derive(Clone, Copy)]
-pub enum HeaderRead {
-    Good(Header),
-    Bad,
-}
-
-// Whether the data of a NAK are a resume.
-#[derive(Clone, Copy)]
-pub enum ResumeRead {
-    Asked(Resume),
-    Nothing,
-}
-
 // How many bytes stand before the data.
+#[tactic(auto, unfolding(crate::specs::Span::lead))]
 fn lead(first: u8, second: u8) -> usize
-    ensures { result ≡ lead_of first second }
+    ensures { (result ≡ lead_of first second) × (result ≤ 3) }
 {
-    if first == 5 {
-        if second == 2 {
-            return 3;
-        }
-    }
-    2
+    if first == 5 && second == 2 { 3 } else { 2 }
 }
 
 // How many bytes stand behind the data.
+#[tactic(auto, unfolding(crate::specs::Span::trail))]
 fn trail(checked: bool, first: u8) -> usize
-    ensures { result ≡ trail_of checked first }
+    ensures { (result ≡ trail_of checked first) × (result ≤ 1) }
 {
-    if first == 2 {
-        if checked {
-            return 1;
-        }
-    }
-    0
+    usize::from(first == 2 && checked)
 }
 
 // Where the data of the packet stand that b is.
+#[tactic(auto, unfolding(crate::specs::Span::place_at))]
 pub fn place_of(b: &[u8], checked: bool) -> Place
     ensures { result ≡ place_of checked b.now }
 {
     let first = fields::byte_at(b, 0);
     let start = lead(first, fields::byte_at(b, 1));
-    let rest = start + trail(checked, first);
-    if b.len() < rest {
-        return Place { start, len: 0 };
-    }
-    Place {
-        start,
-        len: b.len() - rest,
-    }
+    let len = b.len().saturating_sub(start + trail(checked, first));
+    Place { start, len }
 }
 
 // The sum of the bytes modulo 256.
+#[tactic(auto, unfolding(crate::specs::Packet::checksum))]
 pub fn checksum(d: &[u8]) -> u8
     ensures { result ≡ checksum_of d.now }
 {
-    let mut acc: usize = 0;
-    let mut i = 0;
-    while i < d.len() {
-        acc = (acc + d[i] as usize) % 256;
-        i += 1;
+    d.iter().fold(0, |sum: u8, &x| sum.wrapping_add(x))
+}
+
+// The bytes before the first zero, and those behind it.
+fn split_at_zero(s: &[u8]) -> Option<(&[u8], &[u8])>
+    ensures { MatchOption result (length s.now ≤ length (up_to 0 s.now)) (λ p. (p.0.now ≡ up_to 0 s.now) × (p.1.now ≡ drop (length (up_to 0 s.now) + 1) s.now) × (length (up_to 0 s.now) < length s.now)) }
+{
+    let k = fields::find(s, 0);
+    if k < s.len() {
+        Some((&s[..k], &s[k + 1..]))
+    } else {
+        None
     }
-    acc as u8
 }

@@ -1,5 +1,5 @@
 // How far a YAPP packet reaches.
-ghost use Rattle.std.specs.Prelude.{◌≡◌};
+ghost use Rattle.std.specs.Prelude.{◌≡◌, ◌≤◌};
 ghost use Rattle.packets.specs.Span.{known, paired, data_length, total, span as span_of};
 
 // What stands at the front of the bytes at hand.
@@ -14,72 +14,68 @@ pub enum Span {
 }
 
 // Whether a packet can start with this byte.
+#[tactic(auto, unfolding(crate::specs::Span::known))]
 fn is_known(first: u8) -> bool
     ensures { result ≡ known first }
 {
-    match first {
-        1 | 2 | 3 | 4 | 5 | 6 | 0x10 | 0x15 | 0x18 => true,
-        _ => false,
-    }
+    matches!(first, 1..=6 | 0x10 | 0x15 | 0x18)
 }
 
 // Whether a known first byte may have this second byte.
+#[tactic(auto, unfolding(crate::specs::Span::paired))]
 fn is_paired(first: u8, second: u8) -> bool
     ensures { result ≡ paired first second }
 {
     match first {
-        3 => second == 1,
-        4 => second == 1,
-        5 => second == 1 || second == 2,
-        6 => 1 <= second && second <= 6,
+        3 | 4 => second == 1,
+        5 => matches!(second, 1 | 2),
+        6 => matches!(second, 1..=6),
         _ => true,
     }
 }
 
 // How many bytes of data a DT has by its length byte: 00 means 256.
+#[tactic(auto, unfolding(crate::specs::Span::data_length))]
 fn data_length(second: u8) -> usize
-    ensures { result ≡ data_length second }
+    ensures { (result ≡ data_length second) × (result ≤ 256) }
 {
-    if second == 0 { 256 } else { second as usize }
+    match second {
+        0 => 256,
+        _ => usize::from(second),
+    }
 }
 
 // How many bytes the packet has that starts with these three.
+#[tactic(auto, unfolding(crate::specs::Span::total, crate::specs::Span::counted))]
 fn whole_length(checked: bool, first: u8, second: u8, third: u8) -> usize
     ensures { result ≡ total checked first second third }
 {
     match first {
-        1 | 0x10 | 0x15 | 0x18 => 2 + second as usize,
-        2 => {
-            let data = data_length(second);
-            if checked { data + 3 } else { data + 2 }
-        }
-        5 => { if second == 2 { 3 + third as usize } else { 2 } }
+        1 | 0x10 | 0x15 | 0x18 => 2 + usize::from(second),
+        2 if checked => data_length(second) + 3,
+        2 => data_length(second) + 2,
+        5 if second == 2 => 3 + usize::from(third),
         _ => 2,
     }
 }
 
 // How far the packet at the front of b reaches; checked says whether every DT has a checksum (YappC).
+#[tactic(auto, unfolding(crate::specs::Span::span_at))]
 pub fn span_of(b: &[u8], checked: bool) -> Span
     ensures { result ≡ span_of checked b.now }
 {
-    if b.len() == 0 {
-        return Span::Open;
-    }
-    let first = fields::byte_at(b, 0);
-    if !is_known(first) {
-        return Span::Drop(1);
-    }
-    if b.len() == 1 {
-        return Span::Open;
-    }
-    let second = fields::byte_at(b, 1);
-    if !is_paired(first, second) {
-        return Span::Drop(2);
-    }
-    let whole = whole_length(checked, first, second, fields::byte_at(b, 2));
-    if whole <= b.len() {
-        Span::Whole(whole)
-    } else {
-        Span::Open
+    match *b {
+        [] => Span::Open,
+        [first, ..] if !is_known(first) => Span::Drop(1),
+        [_] => Span::Open,
+        [first, second, ..] if !is_paired(first, second) => Span::Drop(2),
+        [first, second, ..] => {
+            let whole = whole_length(checked, first, second, fields::byte_at(b, 2));
+            if whole <= b.len() {
+                Span::Whole(whole)
+            } else {
+                Span::Open
+            }
+        }
     }
 }

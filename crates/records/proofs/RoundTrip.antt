@@ -1,4 +1,5 @@
 -- What is written reads back as the same record, and what can be read is in the form that we write. Assumes nothing.
+use Rattle.std.specs.Prelude.{None, Option, Some, ℕ}
 use mathlib.Core.Path.{◌≡◌, refl, sym, ap, ◌∙◌}
 use mathlib.Core.Bool.{Bool, true, false}
 use mathlib.Core.List.{List, [], ◌∷◌, ◌++◌, append_assoc}
@@ -8,8 +9,6 @@ use lib.Dec.{leb, eqb}
 use lib.ListN.{length, take, drop, length-append, length-take, length-drop, take-append-drop}
 use lib.Seq.{take_all, take-length, take_at, drop_at, drop-drop}
 use borrow.Author.Tests.{leb-true, eqb-true, lt-ltb}
-use Rattle.fields.specs.declared.Stamp.{Stamp}
-use Rattle.fields.specs.declared.Stamp.TheVariants.{Present, Absent}
 use Rattle.fields.specs.Lists.{part, all}
 use Rattle.fields.specs.Name.{is_name_byte, is_name}
 use Rattle.numbers.specs.Canonical.{is_byte}
@@ -20,7 +19,6 @@ use Rattle.fields.proofs.Buffer.{form-is}
 use Rattle.numbers.proofs.numerals.Writing.{little-length}
 use Rattle.numbers.proofs.RoundTrip.{little-value, little-bytes-back, little-below, little-bytes}
 use Rattle.records.specs.declared.Record.{Record}
-use Rattle.records.specs.declared.RecordRead.TheVariants.{Good, Unreadable}
 use Rattle.records.specs.Record.{number_at, named_at, kind_read, record_of}
 use Rattle.records.specs.Saved.{Saved, saved_of, saved, kind_of, stamp_bytes, record_data, record_bytes, stamp_fits, is_saved, record_form}
 use Rattle.records.proofs.Laws.{named-good, kind-one, kind-two, length-right, stamp-present, stamp-absent, stamp-length, stamp-bytes, stamp-none, stamp_in_range, kind-present, kind-absent, data-length, form-good}
@@ -45,7 +43,7 @@ formed s bs e =
     record { named = p.0; sized = leb-true s.size 99999999 q.0; held = leb-true s.kept 0xFFFFFFFF r.0; fits = r.1; is = f.1 }
 
 -- the fields one after the other
-bytes_cut : (name : List ℕ) (size kept : ℕ) (stamp : Stamp) → record_bytes (saved name size kept stamp)
+bytes_cut : (name : List ℕ) (size kept : ℕ) (stamp : Option ℕ) → record_bytes (saved name size kept stamp)
     ≡ little 2 (length (record_data (saved name size kept stamp)))
     ++ (little 2 (kind_of stamp) ++ (little 4 size ++ (little 4 kept ++ (stamp_bytes stamp ++ (little 1 (length name) ++ name)))))
 unfolding record_bytes record_data
@@ -70,7 +68,7 @@ number-there p q b i w v e l h =
     rw (e, drop_at p (little w v ++ q) i l, take_at (little w v) q w (little-length w v)) (little-value w v h)
 
 -- each field of what is written stands in its place
-module _ (name : List ℕ) (size kept : ℕ) (stamp : Stamp) (bs : List ℕ) (f : Formed (saved name size kept stamp) bs) where
+module _ (name : List ℕ) (size kept : ℕ) (stamp : Option ℕ) (bs : List ℕ) (f : Formed (saved name size kept stamp) bs) where
   count : List ℕ
   count = little 2 (length (record_data (saved name size kept stamp)))
 
@@ -121,9 +119,9 @@ module _ (name : List ℕ) (size kept : ℕ) (stamp : Stamp) (bs : List ℕ) (f 
   unfolding kind kind_of
   kind-back = number-there count _ bs 2 2 (kind_of stamp) cut-kind two.0 (small stamp)
     where
-      small : (stamp : Stamp) → kind_of stamp < 256 ^ 2
-      small (Present v) = omega arith
-      small Absent = omega arith
+      small : (stamp : Option ℕ) → kind_of stamp < 256 ^ 2
+      small (Some v) = omega arith
+      small None = omega arith
 
   size_back : number_at 4 4 bs ≡ size
   size_back =
@@ -137,10 +135,10 @@ module _ (name : List ℕ) (size kept : ℕ) (stamp : Stamp) (bs : List ℕ) (f 
       let b = f.held in
       number-there (count ++ kind ++ little 4 size) _ bs 8 4 kept cut-kept (simp (length-append, little-length) (omega arith)) (omega arith)
 
-  stamp-back : (v : ℕ) → stamp ≡ Present v → number_at 12 4 bs ≡ v
+  stamp-back : (v : ℕ) → stamp ≡ Some v → number_at 12 4 bs ≡ v
   stamp-back v e =
       let t = two in
-      let b : stamp_fits (Present v) ≡ true = rw e at f.fits in
+      let b : stamp_fits (Some v) ≡ true = rw e at f.fits in
       let m = leb-true v 0xFFFFFFFF b in
       let q = ap stamp_bytes e ∙ stamp-bytes v in
       number-there (count ++ kind ++ little 4 size ++ little 4 kept) behind-stamp bs 12 4 v
@@ -162,7 +160,7 @@ module _ (name : List ℕ) (size kept : ℕ) (stamp : Stamp) (bs : List ℕ) (f 
         simp (length-append, little-length) (omega arith) in
         rw (cut-name, drop_at (count ++ kind ++ little 4 size ++ little 4 kept ++ stamp_bytes stamp ++ little 1 (length name)) name (i + 1) l) (take-length name)
 
-    named_back : (t : Stamp) → named_at i t bs ≡ Good (record { size = size; kept = kept; stamp = t; name = record { start = i + 1; len = length name } })
+    named_back : (t : Option ℕ) → named_at i t bs ≡ Some (record { size = size; kept = kept; stamp = t; name = record { start = i + 1; len = length name } })
     named_back t =
         let l = ap length f.is in
         let m = bytes-length (saved name size kept stamp) in
@@ -175,23 +173,23 @@ record_in : Saved → Record
 record_in s =
     record { size = s.size; kept = s.kept; stamp = s.stamp; name = record { start = 12 + length (stamp_bytes s.stamp) + 1; len = length s.name } }
 
-reads : (name : List ℕ) (size kept : ℕ) (stamp : Stamp) (bs : List ℕ) → Formed (saved name size kept stamp) bs
-    → record_of bs ≡ Good (record_in (saved name size kept stamp))
+reads : (name : List ℕ) (size kept : ℕ) (stamp : Option ℕ) (bs : List ℕ) → Formed (saved name size kept stamp) bs
+    → record_of bs ≡ Some (record_in (saved name size kept stamp))
 unfolding record_in kind_of
-reads name size kept (Present v) bs f =
-    let p = stamp-present (Present v) v refl in
-    let k = kind-back name size kept (Present v) bs f in
-    let n = named_back name size kept (Present v) bs f 16 (omega arith) (Present v) in
-    length-right bs (length_back name size kept (Present v) bs f) ∙ kind-two _ bs k
-    ∙ ap (λ (x : ℕ). named_at 16 (Present x) bs) (stamp-back name size kept (Present v) bs f v refl) ∙ rw p n
-reads name size kept Absent bs f =
-    let p = stamp-absent Absent refl in
-    let k = kind-back name size kept Absent bs f in
-    let n = named_back name size kept Absent bs f 12 (omega arith) Absent in
-    length-right bs (length_back name size kept Absent bs f) ∙ kind-one _ bs k ∙ rw p n
+reads name size kept (Some v) bs f =
+    let p = stamp-present (Some v) v refl in
+    let k = kind-back name size kept (Some v) bs f in
+    let n = named_back name size kept (Some v) bs f 16 (omega arith) (Some v) in
+    length-right bs (length_back name size kept (Some v) bs f) ∙ kind-two _ bs k
+    ∙ ap (λ (x : ℕ). named_at 16 (Some x) bs) (stamp-back name size kept (Some v) bs f v refl) ∙ rw p n
+reads name size kept None bs f =
+    let p = stamp-absent None refl in
+    let k = kind-back name size kept None bs f in
+    let n = named_back name size kept None bs f 12 (omega arith) None in
+    length-right bs (length_back name size kept None bs f) ∙ kind-one _ bs k ∙ rw p n
 
 -- what is written reads back as the same record
-pub reads-back : (s : Saved) (bs : List ℕ) → record_form s ≡ bytes bs → (r : Record) × (record_of bs ≡ Good r) × (saved_of bs r ≡ s)
+pub reads-back : (s : Saved) (bs : List ℕ) → record_form s ≡ bytes bs → (r : Record) × (record_of bs ≡ Some r) × (saved_of bs r ≡ s)
 unfolding record_in
 reads-back s bs e =
     let f = formed s bs e in
@@ -208,10 +206,10 @@ name-bytes (c ∷ s) h =
     let r = leb-true c 126 (both (leb c 126) _ q.1).0 in
     rw (lt-ltb c 256 (omega arith)) (name-bytes s p.1)
 
-stamp-all : (stamp : Stamp) → all is_byte (stamp_bytes stamp) ≡ true
+stamp-all : (stamp : Option ℕ) → all is_byte (stamp_bytes stamp) ≡ true
 unfolding stamp_bytes all
-stamp-all (Present v) = little-bytes 4 v
-stamp-all Absent = refl
+stamp-all (Some v) = little-bytes 4 v
+stamp-all None = refl
 
 pub record-bytes : (s : Saved) (bs : List ℕ) → record_form s ≡ bytes bs → all is_byte bs ≡ true
 unfolding record_bytes record_data is_name
@@ -229,16 +227,16 @@ record-bytes s bs e =
 -- ---- What can be read
 
 -- the tests that a record passed whose name length stands at index i
-pub record Passed (i : ℕ) (stamp : Stamp) (b : List ℕ) (r : Record) : Type 0 where
+pub record Passed (i : ℕ) (stamp : Option ℕ) (b : List ℕ) (r : Record) : Type 0 where
   pub ends : i + 1 + number_at i 1 b ≡ length b
   pub named : is_name (part (i + 1) (number_at i 1 b) b) ≡ true
   pub sized : number_at 4 4 b ≤ 99999999
   pub is : record { size = number_at 4 4 b; kept = number_at 8 4 b; stamp = stamp; name = record { start = i + 1; len = number_at i 1 b } } ≡ r
 
-never : (r : Record) → Unreadable ≡ Good r → ⊥
+never : (r : Record) → None ≡ Some r → ⊥
 never r e = let z : ◌≡◌ {A = ℕ} 0 1 = cc in omega arith
 
-passed : (i : ℕ) (stamp : Stamp) (b : List ℕ) (r : Record) → named_at i stamp b ≡ Good r → Passed i stamp b r
+passed : (i : ℕ) (stamp : Option ℕ) (b : List ℕ) (r : Record) → named_at i stamp b ≡ Some r → Passed i stamp b r
 unfolding named_at
 passed i stamp b r e = go (eqb (i + 1 + number_at i 1 b) (length b)) refl (is_name (part (i + 1) (number_at i 1 b) b)) refl (leb (number_at 4 4 b) 99999999) refl
   where
@@ -253,17 +251,17 @@ passed i stamp b r e = go (eqb (i + 1 + number_at i 1 b) (length b)) refl (is_na
 
 -- either kind
 pub data Kinds (b : List ℕ) (r : Record) : Type 0 where
-  unstamped : number_at 2 2 b ≡ 1 → Passed 12 Absent b r → Kinds b r
-  stamped : number_at 2 2 b ≡ 2 → Passed 16 (Present (number_at 12 4 b)) b r → Kinds b r
+  unstamped : number_at 2 2 b ≡ 1 → Passed 12 None b r → Kinds b r
+  stamped : number_at 2 2 b ≡ 2 → Passed 16 (Some (number_at 12 4 b)) b r → Kinds b r
 
-kinds : (b : List ℕ) (r : Record) → record_of b ≡ Good r → (2 + number_at 0 2 b ≡ length b) × Kinds b r
+kinds : (b : List ℕ) (r : Record) → record_of b ≡ Some r → (2 + number_at 0 2 b ≡ length b) × Kinds b r
 unfolding record_of kind_read
 kinds b r e = go (eqb (2 + number_at 0 2 b) (length b)) refl (eqb (number_at 2 2 b) 1) refl (eqb (number_at 2 2 b) 2) refl
   where
     go : (t : Bool) → eqb (2 + number_at 0 2 b) (length b) ≡ t → (u : Bool) → eqb (number_at 2 2 b) 1 ≡ u → (v : Bool) → eqb (number_at 2 2 b) 2 ≡ v
         → (2 + number_at 0 2 b ≡ length b) × Kinds b r
-    go true p true q v w = (eqb-true _ _ p, unstamped (eqb-true _ 1 q) (passed 12 Absent b r (rw (p, q) at e)))
-    go true p false q true w = (eqb-true _ _ p, stamped (eqb-true _ 2 w) (passed 16 (Present (number_at 12 4 b)) b r (rw (p, q, w) at e)))
+    go true p true q v w = (eqb-true _ _ p, unstamped (eqb-true _ 1 q) (passed 12 None b r (rw (p, q) at e)))
+    go true p false q true w = (eqb-true _ _ p, stamped (eqb-true _ 2 w) (passed 16 (Some (number_at 12 4 b)) b r (rw (p, q, w) at e)))
     go true p false q false w = absurd (never r (rw (p, q, w) at e))
     go false p u q v w = absurd (never r (rw p at e))
 
@@ -292,7 +290,7 @@ module _ (b : List ℕ) (h : all is_byte b ≡ true) where
         rw l (sym (ap (λ (t : List ℕ). take w (drop i b) ++ t) (sym (drop-drop w i b)) ∙ take-append-drop w (drop i b)))
 
   -- the whole, for either kind
-  module _ (r : Record) (i : ℕ) (stamp : Stamp) (counted : 2 + number_at 0 2 b ≡ length b) (kind : number_at 2 2 b ≡ kind_of stamp)
+  module _ (r : Record) (i : ℕ) (stamp : Option ℕ) (counted : 2 + number_at 0 2 b ≡ length b) (kind : number_at 2 2 b ≡ kind_of stamp)
       (place : i ≡ 12 + length (stamp_bytes stamp)) (p : Passed i stamp b r) (cut : drop 12 b ≡ stamp_bytes stamp ++ drop i b) where
     name : List ℕ
     name = part (i + 1) (number_at i 1 b) b
@@ -339,24 +337,24 @@ module _ (b : List ℕ) (h : all is_byte b ≡ true) where
         let k = number-below 8 4 (omega arith) in
         rw (← p.is) (form-good _ _ _ _ p.named p.sized (omega arith) f ∙ ap bytes read-bytes)
 
-pub writes-back : (b : List ℕ) (r : Record) → all is_byte b ≡ true → record_of b ≡ Good r → record_form (saved_of b r) ≡ bytes b
+pub writes-back : (b : List ℕ) (r : Record) → all is_byte b ≡ true → record_of b ≡ Some r → record_form (saved_of b r) ≡ bytes b
 writes-back b r h e = let k = kinds b r e in go k.0 k.1
   where
     go : 2 + number_at 0 2 b ≡ length b → Kinds b r → record_form (saved_of b r) ≡ bytes b
     go c (unstamped k p) =
-        let l = stamp-absent Absent refl in
-        read-form b h r 12 Absent c (k ∙ sym kind-absent) (omega arith) p (ap (λ (l : List ℕ). l ++ drop 12 b) (sym stamp-none)) refl
+        let l = stamp-absent None refl in
+        read-form b h r 12 None c (k ∙ sym kind-absent) (omega arith) p (ap (λ (l : List ℕ). l ++ drop 12 b) (sym stamp-none)) refl
     go c (stamped k p) =
         let v = number_at 12 4 b in
-        let l = stamp-present (Present v) v refl in
+        let l = stamp-present (Some v) v refl in
         let e = p.ends in
         let m = number-below b h 12 4 (omega arith) in
-        read-form b h r 16 (Present v) c (k ∙ sym (kind-present v)) (omega arith) p
+        read-form b h r 16 (Some v) c (k ∙ sym (kind-present v)) (omega arith) p
         (number_cut b h 12 4 (omega arith) ∙ ap (λ (l : List ℕ). l ++ drop 16 b) (sym (stamp-bytes v)))
-        (stamp_in_range (Present v) v refl (omega arith))
+        (stamp_in_range (Some v) v refl (omega arith))
 
 -- a record that is read has a name and a size within the limits
-pub read-limits : (b : List ℕ) (r : Record) → record_of b ≡ Good r → (is_name (saved_of b r).name ≡ true) × (r.size ≤ 99999999)
+pub read-limits : (b : List ℕ) (r : Record) → record_of b ≡ Some r → (is_name (saved_of b r).name ≡ true) × (r.size ≤ 99999999)
 read-limits b r e = go (kinds b r e).1
   where
     go : Kinds b r → (is_name (saved_of b r).name ≡ true) × (r.size ≤ 99999999)
@@ -364,7 +362,7 @@ read-limits b r e = go (kinds b r e).1
     go (stamped k p) = rw (← p.is) (p.named, p.sized)
 
 -- and of bytes a kept count and a stamp of four bytes
-pub read_fits : (b : List ℕ) (r : Record) → all is_byte b ≡ true → record_of b ≡ Good r → (r.kept < 2 ^ 32) × ((v : ℕ) → r.stamp ≡ Present v → v < 2 ^ 32)
+pub read_fits : (b : List ℕ) (r : Record) → all is_byte b ≡ true → record_of b ≡ Some r → (r.kept < 2 ^ 32) × ((v : ℕ) → r.stamp ≡ Some v → v < 2 ^ 32)
 read_fits b r h e =
     let f = formed (saved_of b r) b (writes-back b r h e) in
-    (omega (arith, f.held), λ v q. let m : stamp_fits (Present v) ≡ true = rw q at f.fits in omega (arith, leb-true v 0xFFFFFFFF m))
+    (omega (arith, f.held), λ v q. let m : stamp_fits (Some v) ≡ true = rw q at f.fits in omega (arith, leb-true v 0xFFFFFFFF m))

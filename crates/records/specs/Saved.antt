@@ -1,11 +1,9 @@
 -- A saved record with its name, and the bytes that it is written as. (Document 01, "The saved record".)
-use Rattle.std.specs.Prelude.{ℕ, Bool, ◌&&◌, List, [], ◌++◌, length, leb}
+use Rattle.std.specs.Prelude.{ℕ, Bool, ◌&&◌, List, [], ◌++◌, length, leb, None, Option, Some}
 use Rattle.fields.specs.Lists.{bytes_at}
 use Rattle.fields.specs.Name.{is_name}
 use Rattle.numbers.specs.Writing.{little}
 use Rattle.fields.specs.Buffer.{Form, form_if}
-use Rattle.fields.specs.declared.Stamp.{Stamp}
-use Rattle.fields.specs.declared.Stamp.TheVariants.{Present, Absent}
 pub use Rattle.fields.specs.Stamps.{stamp_fits}
 use Rattle.records.specs.declared.Record.{Record}
 
@@ -13,24 +11,24 @@ use Rattle.records.specs.declared.Record.{Record}
 pub record Saved : Type 0 where
   pub size : ℕ
   pub kept : ℕ
-  pub stamp : Stamp
+  pub stamp : Option ℕ
   pub name : List ℕ
 
 -- a record whose name's place is in b
 abbrev pub saved_of : List ℕ → Record → Saved
 saved_of b r = record { size = r.size; kept = r.kept; stamp = r.stamp; name = bytes_at b r.name }
 
-abbrev pub saved : List ℕ → ℕ → ℕ → Stamp → Saved
+abbrev pub saved : List ℕ → ℕ → ℕ → Option ℕ → Saved
 saved name size kept stamp = record { size = size; kept = kept; stamp = stamp; name = name }
 
 -- kind 2 is used exactly where there is a stamp; kind 1 has none
-unfoldable pub kind_of : Stamp → ℕ
-kind_of (Present v) = 2
-kind_of Absent = 1
+unfoldable pub kind_of : Option ℕ → ℕ
+kind_of (Some v) = 2
+kind_of None = 1
 
-unfoldable pub stamp_bytes : Stamp → List ℕ
-stamp_bytes (Present v) = little 4 v
-stamp_bytes Absent = []
+unfoldable pub stamp_bytes : Option ℕ → List ℕ
+stamp_bytes (Some v) = little 4 v
+stamp_bytes None = []
 
 -- what follows the length: kind (2), size (4), kept (4), for kind 2 a stamp (4), name length (1), name
 unfoldable pub record_data : Saved → List ℕ

@@ -17,53 +17,42 @@
 
 use bin::ReceiverState;
 use bin_receiver::{Receiver, ReceiverAnswer};
-use calls::Status;
+use calls::Refusal;
 use crc::Reading;
-use fields::buffers;
 use script::printing::{
     put, put_answer, put_number, put_outcome, put_status, put_stored, put_text, put_touched,
 };
-use script::reading::{before, behind, decode, is_word, number, place_in, playable, word};
+use script::reading::{before, behind, decode, is_word, number, playable, word};
 use std::io;
 use std::io::{Read, Write};
 
-// ---- Printing
-
-fn put_basic<W: Write>(out: &mut W, size: u32, kept: u32) -> io::Result<()> {
-    put_number(out, b" Basic ", size as usize)?;
-    put_number(out, b" ", kept as usize)
+#[derive(Clone, Copy)]
+struct Play {
+    receiver: Receiver,
+    area: [u8; 32],
 }
+
+// ---- Printing
 
 fn put_state<W: Write>(out: &mut W, state: ReceiverState) -> io::Result<()> {
     match state {
         ReceiverState::Waiting => put(out, b" Waiting"),
-        ReceiverState::Basic { size, kept } => put_basic(out, size, kept),
-        ReceiverState::Extended { crc } => put_number(out, b" Extended ", crc as usize),
+        ReceiverState::Basic { size, kept } => {
+            put_number(out, b" Basic ", size as usize)?;
+            put_number(out, b" ", kept as usize)
+        }
+        ReceiverState::Extended { crc } => put_number(out, b" Extended ", usize::from(crc)),
         ReceiverState::Ended { outcome } => put_outcome(out, b" ended ", outcome),
     }
 }
 
-fn put_end<W: Write>(out: &mut W, status: Status, m: Receiver) -> io::Result<()> {
-    put(out, b" ->")?;
-    put_status(out, status)?;
-    put_state(out, m.state())
-}
-
-fn put_counts<W: Write>(out: &mut W, sent: &[u8], stored: usize, shown: &[u8]) -> io::Result<()> {
-    put_text(out, b"; sent ", sent)?;
-    put_number(out, b"; stored ", stored)?;
-    put_text(out, b"; shown ", shown)
-}
-
 fn show<W: Write>(out: &mut W, got: ReceiverAnswer, frame: &[u8], reply: &[u8]) -> io::Result<()> {
-    let status = got.status;
-    put_end(out, status, got.receiver)?;
-    put_counts(
-        out,
-        fields::part(reply, 0, got.sent),
-        got.stored,
-        fields::bytes_at(frame, got.shown),
-    )?;
+    put(out, b" ->")?;
+    put_status(out, got.status)?;
+    put_state(out, got.receiver.state())?;
+    put_text(out, b"; sent ", fields::part(reply, 0, got.sent))?;
+    put_number(out, b"; stored ", got.stored)?;
+    put_text(out, b"; shown ", fields::bytes_at(frame, got.shown))?;
     put_touched(out, b"; reply", reply)
 }
 
@@ -71,10 +60,10 @@ fn show<W: Write>(out: &mut W, got: ReceiverAnswer, frame: &[u8], reply: &[u8]) 
 
 // The reading that the word at this index says.
 fn reading_at(line: &[u8], i: usize) -> Reading {
-    if is_word(line, i, b"augmented") {
-        return Reading::Augmented;
+    match word(line, i) {
+        b"augmented" => Reading::Augmented,
+        _ => Reading::Bare,
     }
-    Reading::Bare
 }
 
 fn resume_from(record: &[u8], line: &[u8]) -> Receiver {
@@ -92,13 +81,7 @@ fn begin_resume(line: &[u8]) -> Receiver {
     resume_from(fields::part(&record, 0, n), line)
 }
 
-// With no record the area is filled anew, with one it stays.
-fn begin(which: usize, line: &[u8], area: &mut [u8]) -> Receiver {
-    if which == 5 {
-        return begin_resume(line);
-    }
-    let filled = [0xEE; 32];
-    buffers::append_bytes(area, 0, &filled);
+fn begin_fresh(line: &[u8]) -> Receiver {
     Receiver::fresh(
         number(word(line, 1)),
         is_word(line, 2, b"?"),
@@ -106,130 +89,78 @@ fn begin(which: usize, line: &[u8], area: &mut [u8]) -> Receiver {
     )
 }
 
-fn put_begun<W: Write>(out: &mut W, m: Receiver) -> io::Result<()> {
+fn begin<W: Write>(out: &mut W, receiver: Receiver, area: [u8; 32]) -> io::Result<Play> {
     put(out, b" ->")?;
-    put_state(out, m.state())
+    put_state(out, receiver.state())?;
+    Ok(Play { receiver, area })
 }
 
 // ---- Calls
 
-fn call_receiver(
+// What came of a call; nothing where the line asks for none.
+fn call(
     m: Receiver,
-    which: usize,
+    line: &[u8],
     frame: &[u8],
     area: &mut [u8],
     reply: &mut [u8],
-) -> ReceiverAnswer {
-    match which {
-        0 => m.transmit(area, reply),
-        1 => m.receive(frame, area, reply),
-        2 => m.timeout(area, reply),
-        _ => m.cancel(area, reply),
+) -> Option<ReceiverAnswer> {
+    match word(line, 0) {
+        b"leave" => Some(m.transmit(area, reply)),
+        b"frame" => Some(m.receive(frame, area, reply)),
+        b"timer" => Some(m.timeout(area, reply)),
+        b"stop" => Some(m.cancel(area, reply)),
+        _ => None,
     }
 }
 
-// A call with the bytes that a word says.
-fn hand<W: Write>(
-    out: &mut W,
-    m: Receiver,
-    which: usize,
-    text: &[u8],
-    area: &mut [u8],
-    reply: &mut [u8],
-) -> io::Result<Receiver> {
+fn put_record<W: Write>(out: &mut W, m: Receiver, buf: &mut [u8]) -> io::Result<()> {
+    let got = m.record(buf);
+    put_answer(out, got, buf)
+}
+
+// Does what a line says. With no record the area is filled anew, with one it stays.
+fn act<W: Write>(out: &mut W, p: Play, line: &[u8], reply: &mut [u8]) -> io::Result<Play> {
     let mut space = [0u8; 1200];
-    let n = decode(text, &mut space);
+    let n = decode(word(line, 1), &mut space);
     let frame = fields::part(&space, 0, n);
-    let got = call_receiver(m, which, frame, area, reply);
-    show(out, got, frame, reply)?;
-    Ok(got.receiver)
-}
-
-fn call<W: Write>(
-    out: &mut W,
-    m: Receiver,
-    which: usize,
-    text: &[u8],
-    area: &mut [u8],
-    reply: &mut [u8],
-) -> io::Result<Receiver> {
-    let mut old = [0u8; 32];
-    buffers::append_bytes(&mut old, 0, area);
-    let next = hand(out, m, which, text, area, reply)?;
-    put_stored(out, &old, area)?;
-    Ok(next)
-}
-
-// The record into 81 bytes, and into 80.
-fn put_record<W: Write>(out: &mut W, m: Receiver) -> io::Result<()> {
-    let mut buf = [0xEE; 81];
-    let got = m.record(&mut buf);
-    put_answer(out, got, &buf)
-}
-
-fn put_record_80<W: Write>(out: &mut W, m: Receiver) -> io::Result<()> {
-    let mut buf = [0xEE; 80];
-    let got = m.record(&mut buf);
-    put_answer(out, got, &buf)
-}
-
-// What a line says to do: a call, 0 to 3; a beginning, 4 and 5; to show the record, 6 and 7; nothing, 8.
-fn act<W: Write>(
-    out: &mut W,
-    m: Receiver,
-    line: &[u8],
-    area: &mut [u8],
-    reply: &mut [u8],
-) -> io::Result<Receiver> {
-    let which = place_in(b"leave frame timer stop fresh resume record 80", 8, line);
-    if which < 4 {
-        return call(out, m, which, word(line, 1), area, reply);
+    let mut area = p.area;
+    if let Some(got) = call(p.receiver, line, frame, &mut area, reply) {
+        show(out, got, frame, reply)?;
+        put_stored(out, &p.area, &area)?;
+        return Ok(Play {
+            receiver: got.receiver,
+            area,
+        });
     }
-    if which < 6 {
-        let begun = begin(which, line, area);
-        put_begun(out, begun)?;
-        return Ok(begun);
+    match word(line, 0) {
+        b"fresh" => return begin(out, begin_fresh(line), [0xEE; 32]),
+        b"resume" => return begin(out, begin_resume(line), area),
+        b"record" => put_record(out, p.receiver, &mut [0xEE; 81])?,
+        b"80" => put_record(out, p.receiver, &mut [0xEE; 80])?,
+        _ => {}
     }
-    if which == 6 {
-        put_record(out, m)?;
-    }
-    if which == 7 {
-        put_record_80(out, m)?;
-    }
-    Ok(m)
+    Ok(p)
 }
 
 // A line with a reply buffer of 258 bytes, and with one of 259.
-fn act_258<W: Write>(
-    out: &mut W,
-    m: Receiver,
-    line: &[u8],
-    area: &mut [u8],
-) -> io::Result<Receiver> {
-    let mut reply = [0xEE; 258];
-    act(out, m, line, area, &mut reply)
-}
-
-fn turn<W: Write>(out: &mut W, m: Receiver, line: &[u8], area: &mut [u8]) -> io::Result<Receiver> {
+fn turn<W: Write>(out: &mut W, p: Play, line: &[u8]) -> io::Result<Play> {
     if is_word(line, 0, b"258") {
-        return act_258(out, m, behind(line, b' '), area);
+        return act(out, p, behind(line, b' '), &mut [0xEE; 258]);
     }
-    let mut reply = [0xEE; 259];
-    act(out, m, line, area, &mut reply)
+    act(out, p, line, &mut [0xEE; 259])
 }
 
 fn run<W: Write>(out: &mut W, script: &[u8]) -> io::Result<()> {
-    let mut space = [0xEE; 32];
-    let area: &mut [u8] = &mut space;
-    let mut m = Receiver::fresh(32, false, Reading::Bare);
-    let mut rest = script;
-    while 0 < rest.len() {
-        let line = before(rest, b'\n');
+    let mut p = Play {
+        receiver: Receiver::fresh(32, false, Reading::Bare),
+        area: [0xEE; 32],
+    };
+    for ended in script.split_inclusive(|c| *c == b'\n') {
+        let line = before(ended, b'\n');
         put(out, line)?;
-        m = turn(out, m, line, area)?;
+        p = turn(out, p, line)?;
         put(out, b"\n")?;
-        let next = behind(rest, b'\n');
-        rest = next;
     }
     Ok(())
 }

@@ -13,10 +13,9 @@
 
 use bin::SenderState;
 use bin_sender::{Sender, SenderAnswer};
-use calls::Status;
 use crc::Reading;
 use script::printing::{put, put_number, put_outcome, put_status, put_text, put_touched};
-use script::reading::{before, behind, decode, is_word, number, place_in, playable, word};
+use script::reading::{before, behind, decode, is_word, number, playable, word};
 use std::io;
 use std::io::{Read, Write};
 
@@ -31,32 +30,22 @@ fn put_state<W: Write>(out: &mut W, state: SenderState) -> io::Result<()> {
     }
 }
 
-fn put_end<W: Write>(out: &mut W, status: Status, m: Sender) -> io::Result<()> {
-    put(out, b" ->")?;
-    put_status(out, status)?;
-    put_state(out, m.state())
-}
-
 fn show<W: Write>(out: &mut W, got: SenderAnswer, reply: &[u8]) -> io::Result<()> {
-    let status = got.status;
-    put_end(out, status, got.sender)?;
+    put(out, b" ->")?;
+    put_status(out, got.status)?;
+    put_state(out, got.sender.state())?;
     put_text(out, b"; sent ", fields::part(reply, 0, got.sent))?;
     put_touched(out, b"; reply", reply)
-}
-
-fn put_begun<W: Write>(out: &mut W, m: Sender) -> io::Result<()> {
-    put(out, b" ->")?;
-    put_state(out, m.state())
 }
 
 // ---- Beginnings
 
 // The reading that the word at this index says.
 fn reading_at(line: &[u8], i: usize) -> Reading {
-    if is_word(line, i, b"augmented") {
-        return Reading::Augmented;
+    match word(line, i) {
+        b"augmented" => Reading::Augmented,
+        _ => Reading::Bare,
     }
-    Reading::Bare
 }
 
 fn begin_named(name: &[u8], line: &[u8]) -> Sender {
@@ -76,60 +65,45 @@ fn begin_extended(line: &[u8]) -> Sender {
     begin_named(fields::part(&name, 0, n), line)
 }
 
-fn begin(which: usize, line: &[u8]) -> Sender {
-    if which == 4 {
-        return begin_extended(line);
+// The sender that a line begins; nothing where it begins none.
+fn begin(line: &[u8]) -> Option<Sender> {
+    match word(line, 0) {
+        b"extended" => Some(begin_extended(line)),
+        b"basic" => Some(Sender::begin_basic(number(word(line, 1)), number(word(line, 2)))),
+        _ => None,
     }
-    Sender::begin_basic(number(word(line, 1)), number(word(line, 2)))
 }
 
 // ---- Calls
 
-fn call_sender(
-    m: Sender,
-    which: usize,
-    frame: &[u8],
-    file: &[u8],
-    reply: &mut [u8],
-) -> SenderAnswer {
-    match which {
-        0 => m.transmit(file, reply),
-        1 => m.receive(frame, file, reply),
-        2 => m.timeout(file, reply),
-        _ => m.cancel(file, reply),
-    }
-}
-
-// A call with the bytes that a word says.
-fn call<W: Write>(
-    out: &mut W,
-    m: Sender,
-    which: usize,
-    text: &[u8],
-    file: &[u8],
-    reply: &mut [u8],
-) -> io::Result<Sender> {
+// A frame as a word says it.
+fn receive(m: Sender, text: &[u8], file: &[u8], reply: &mut [u8]) -> SenderAnswer {
     let mut frame = [0u8; 1200];
     let n = decode(text, &mut frame);
-    let got = call_sender(m, which, fields::part(&frame, 0, n), file, reply);
-    show(out, got, reply)?;
-    Ok(got.sender)
+    m.receive(fields::part(&frame, 0, n), file, reply)
 }
 
-// What a line says to do: a call, 0 to 3; a beginning, 4 and 5; nothing, 6.
-fn call_of(line: &[u8]) -> usize {
-    place_in(b"leave frame timer stop extended basic", 6, line)
+// What came of a call; nothing where the line asks for none.
+fn call(m: Sender, line: &[u8], file: &[u8], reply: &mut [u8]) -> Option<SenderAnswer> {
+    match word(line, 0) {
+        b"leave" => Some(m.transmit(file, reply)),
+        b"frame" => Some(receive(m, word(line, 1), file, reply)),
+        b"timer" => Some(m.timeout(file, reply)),
+        b"stop" => Some(m.cancel(file, reply)),
+        _ => None,
+    }
 }
 
 // Lays the file of a sender that begins into file, and returns its length.
 fn load(line: &[u8], size: usize, file: &mut [u8]) -> usize {
-    match call_of(line) {
-        4 => decode(word(line, 5), file),
-        5 => decode(word(line, 3), file),
+    match word(line, 0) {
+        b"extended" => decode(word(line, 5), file),
+        b"basic" => decode(word(line, 3), file),
         _ => size,
     }
 }
 
+// Does what a line says.
 fn act<W: Write>(
     out: &mut W,
     m: Sender,
@@ -137,46 +111,36 @@ fn act<W: Write>(
     file: &[u8],
     reply: &mut [u8],
 ) -> io::Result<Sender> {
-    let which = call_of(line);
-    if which < 4 {
-        return call(out, m, which, word(line, 1), file, reply);
+    if let Some(got) = call(m, line, file, reply) {
+        show(out, got, reply)?;
+        return Ok(got.sender);
     }
-    if which < 6 {
-        let begun = begin(which, line);
-        put_begun(out, begun)?;
+    if let Some(begun) = begin(line) {
+        put(out, b" ->")?;
+        put_state(out, begun.state())?;
         return Ok(begun);
     }
     Ok(m)
 }
 
 // A line with a reply buffer of 258 bytes, and with one of 259.
-fn act_258<W: Write>(out: &mut W, m: Sender, line: &[u8], file: &[u8]) -> io::Result<Sender> {
-    let mut reply = [0xEE; 258];
-    act(out, m, line, file, &mut reply)
-}
-
 fn turn<W: Write>(out: &mut W, m: Sender, line: &[u8], file: &[u8]) -> io::Result<Sender> {
     if is_word(line, 0, b"258") {
-        return act_258(out, m, behind(line, b' '), file);
+        return act(out, m, behind(line, b' '), file, &mut [0xEE; 258]);
     }
-    let mut reply = [0xEE; 259];
-    act(out, m, line, file, &mut reply)
+    act(out, m, line, file, &mut [0xEE; 259])
 }
 
 fn run<W: Write>(out: &mut W, script: &[u8]) -> io::Result<()> {
-    let mut space = [0u8; 1200];
-    let file: &mut [u8] = &mut space;
-    let mut m = Sender::begin_basic(0, 1);
+    let mut file = [0u8; 1200];
     let mut size = 0;
-    let mut rest = script;
-    while 0 < rest.len() {
-        let line = before(rest, b'\n');
+    let mut m = Sender::begin_basic(0, 1);
+    for ended in script.split_inclusive(|c| *c == b'\n') {
+        let line = before(ended, b'\n');
         put(out, line)?;
-        size = load(line, size, file);
-        m = turn(out, m, line, fields::part(file, 0, size))?;
+        size = load(line, size, &mut file);
+        m = turn(out, m, line, fields::part(&file, 0, size))?;
         put(out, b"\n")?;
-        let next = behind(rest, b'\n');
-        rest = next;
     }
     Ok(())
 }

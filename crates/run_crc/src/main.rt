@@ -1,32 +1,19 @@
 // Prints the table of `crc` in the layout of source document 003.
 #![tactic(auto)]
 
-ghost use Rattle.std.specs.Prelude.{◌≡◌, ◌<◌, OnOk};
+ghost use Rattle.std.specs.Prelude.{OnOk};
 ghost use Rattle.std.specs.Io.KnownBytes.{Appends};
-ghost use Rattle.run_crc.specs.Text.{hex_digit, text_of, printed, printed_first};
+ghost use Rattle.run_crc.specs.Text.{text_of, printed, printed_first};
 
 use std::io;
 use std::io::Write;
 
-fn hex_digit(n: u16) -> u8
-    requires { n < 16 }
-    ensures { result ≡ hex_digit n }
+// As C writes it: 0x and four hexadecimal digits.
+#[tactic(auto, using(crate::proofs::Hex::hex_text))]
+fn print_number<W: Write>(out: &mut W, v: u16) -> io::Result<()>
+    ensures { OnOk result (Appends (W.contents out.old) (W.contents out.new) (text_of v)) }
 {
-    if n < 10 {
-        b'0' + n as u8
-    } else {
-        b'a' + (n - 10) as u8
-    }
-}
-
-fn text_of(v: u16) -> [u8; 6]
-    ensures { result ≡ text_of v }
-{
-    let a = hex_digit(v / 4096);
-    let b = hex_digit(v / 256 % 16);
-    let c = hex_digit(v / 16 % 16);
-    let d = hex_digit(v % 16);
-    [b'0', b'x', a, b, c, d]
+    write!(out, "0x{v:04x}")
 }
 
 // Four spaces before the first of eight entries, a comma behind all but the last entry of the table.
@@ -36,7 +23,7 @@ fn print_entry<W: Write>(out: &mut W, i: u8) -> io::Result<()>
     if i % 8 == 0 {
         out.write_all(b"    ")?;
     }
-    out.write_all(&text_of(crc::entry(i)))?;
+    print_number(out, crc::entry(i))?;
     if i < 255 {
         out.write_all(b",")?;
     }

@@ -1,4 +1,5 @@
 -- The bytes of the file's record, and `is_of_file` test by test. Assumes nothing.
+use Rattle.std.specs.Prelude.{Some}
 use mathlib.Core.Path.{◌≡◌, refl, sym, ap, ◌∙◌}
 use mathlib.Core.Bool.{Bool, true, false, ◌&&◌, false≢true}
 use mathlib.Core.List.{List, [], ◌∷◌, ◌++◌}
@@ -8,7 +9,6 @@ use lib.Dec.{leb}
 use lib.ListN.{length, drop, get_or, length-take, length-drop, take-append-drop}
 use lib.Seq.{take_all, drop-drop, get_or-take, get_or-drop}
 use borrow.Author.Tests.{le-leb, leb-true, lt-ltb}
-use Rattle.fields.specs.declared.Stamp.TheVariants.{Present}
 use Rattle.fields.specs.Lists.{part, all, same}
 use Rattle.fields.proofs.Lists.{same_refl, same-eq}
 use Rattle.numbers.specs.Canonical.{is_byte}
@@ -50,7 +50,7 @@ back = 0 ∷ 72 ∷ 33 ∷ 90 ∷ 7 ∷ 97 ∷ 98 ∷ 99 ∷ 46 ∷ 116 ∷ 120 
 abbrev whole : ℕ → ℕ → List ℕ
 whole size kept = front ++ (little 4 size ++ (little 4 kept ++ back))
 
-whole_is : (size kept : ℕ) → record_bytes (saved file_name size kept (Present file_stamp)) ≡ whole size kept
+whole_is : (size kept : ℕ) → record_bytes (saved file_name size kept (Some file_stamp)) ≡ whole size kept
 unfolding little kind_of stamp_bytes record_data record_bytes
 whole_is size kept = refl
 

@@ -1,10 +1,8 @@
 -- What a session over a link that breaks leaves, and what is asked of it.
-use Rattle.std.specs.Prelude.{ℕ, zero, suc, ◌-◌, min, Bool, ◌&&◌, List, [], ◌∷◌, length, take, replicate, leb, eqb}
-use Rattle.std.proofs.Math.Option.{Option}
+use Rattle.std.specs.Prelude.{ℕ, zero, suc, ◌-◌, min, Bool, ◌&&◌, List, [], ◌∷◌, length, take, replicate, leb, eqb, Option, Some}
 use Rattle.fields.specs.Pick.{pick}
 use Rattle.fields.specs.Lists.{same}
 use Rattle.fields.specs.Buffer.{Form, placed}
-use Rattle.fields.specs.declared.Stamp.TheVariants.{Present}
 use Rattle.records.specs.Record.{number_at}
 use Rattle.records.specs.Saved.{saved, record_bytes}
 use Rattle.calls.specs.Count.{record_count}
@@ -87,7 +85,7 @@ holds area file n = leb n (length file) && same area (placed (take n file) untou
 -- b is the record of the file, whatever it says is kept; a record has four bytes for the size
 unfoldable pub is_of_file : List ℕ → List ℕ → Bool
 is_of_file b file =
-    leb (length file) 0xFFFFFFFF && same b (record_bytes (saved file_name (length file) (kept_in b) (Present file_stamp)))
+    leb (length file) 0xFFFFFFFF && same b (record_bytes (saved file_name (length file) (kept_in b) (Some file_stamp)))
 
 -- the record, where there is one, is the file's, and the area holds as many bytes as it says are kept
 unfoldable pub is_sound : Saved → List ℕ → Bool

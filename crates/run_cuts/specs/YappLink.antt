@@ -1,7 +1,6 @@
 -- A session of YAPP over a link that breaks, by what the two ends' calls are defined to leave.
-use Rattle.std.specs.Prelude.{ℕ, ◌-◌, Bool, true, List, length, eqb}
+use Rattle.std.specs.Prelude.{ℕ, ◌-◌, Bool, true, List, length, eqb, Some}
 use Rattle.fields.specs.Pick.{pick}
-use Rattle.fields.specs.declared.Stamp.TheVariants.{Present}
 use Rattle.calls.specs.Numbers.{outcome_number}
 use Rattle.yapp.specs.declared.SenderState.{SenderState}
 use Rattle.yapp.specs.declared.SenderState.TheVariants.{S, SH, SD, SE, ST, CW, Ended}
@@ -24,7 +23,7 @@ receiver_of s checks = pick (eqb s.len 0) (fresh 320 true checks) (resume (recor
 -- the ends of a file of `size` bytes in blocks of 100, over a link that breaks behind `bytes` bytes
 unfoldable pub begin : Saved → ℕ → Bool → ℕ → Ends
 begin before bytes checks size = record {
-  sender = begin_sender file_name size 100 (Present file_stamp) true;
+  sender = begin_sender file_name size 100 (Some file_stamp) true;
   receiver = receiver_of before checks;
   link = begin_link before bytes;
 }

@@ -29,24 +29,23 @@ struct Ends {
     link: Link,
 }
 
+#[tactic(auto, unfolding(crate::specs::BinLink::receiver_of))]
 fn receiver_of(s: Saved, reading: Reading) -> Receiver
     ensures { result ≡ receiver_of s reading }
 {
-    let bytes = s.bytes;
     if s.len == 0 {
         return Receiver::fresh(320, true, reading);
     }
-    Receiver::resume(fields::part(&bytes, 0, s.len), 320, true, reading)
+    Receiver::resume(fields::part(&s.bytes, 0, s.len), 320, true, reading)
 }
 
+#[tactic(auto, unfolding(crate::specs::BinLink::begin))]
 fn begin(before: Saved, bytes: usize, block: usize, readings: Readings, size: usize) -> Ends
     ensures { result ≡ begin_of before bytes block readings size }
 {
-    let sends = readings.sender;
-    let receives = readings.receiver;
     Ends {
-        sender: Sender::begin(b"abc.txt", size, block, 0x5A21_4800, true, sends),
-        receiver: receiver_of(before, receives),
+        sender: Sender::begin(b"abc.txt", size, block, 0x5A21_4800, true, readings.sender),
+        receiver: receiver_of(before, readings.receiver),
         link: link::begin(before, bytes),
     }
 }
@@ -55,15 +54,14 @@ fn begin(before: Saved, bytes: usize, block: usize, readings: Readings, size: us
 fn put_frame<W: Write>(out: &mut W, is_shown: bool, turn: usize, frame: &[u8]) -> io::Result<()>
     ensures { OnErr result (is_shown ≡ true) }
 {
-    if is_shown {
-        if 0 < turn {
-            put_text(out, b" ", frame)?;
-        }
+    if is_shown && 0 < turn {
+        put_text(out, b" ", frame)?;
     }
     Ok(())
 }
 
 // The sender gets what came of the answer; where nothing was answered, it may send.
+#[tactic(auto, unfolding(crate::specs::BinLink::send))]
 fn send(m: Sender, answered: usize, heard: &[u8], file: &[u8], out: &mut [u8; 259]) -> SenderAnswer
     ensures { send_of m answered heard.now file.now out.old ≡ record { answer = result; reply = out.new } }
 {
@@ -97,22 +95,19 @@ fn turn<W: Write>(
     let mut back = l.back;
     let heard = link::passed(&back, l.answered, l.left);
     let a = send(e.sender, l.answered, heard, file, &mut to);
-    let left = link::less(l.left, l.answered);
+    let left = l.left.saturating_sub(l.answered);
     let frame = link::passed(&to, a.sent, left);
     put_frame(out, is_shown, number, frame)?;
     let b = take(e.receiver, frame, &mut area, &mut back);
-    let sender = a.sender;
-    let receiver = b.receiver;
-    let rest = link::less(left, a.sent);
     Ok(Ends {
-        sender,
-        receiver,
+        sender: a.sender,
+        receiver: b.receiver,
         link: Link {
             area,
             to,
             back,
             answered: b.sent,
-            left: rest,
+            left: left.saturating_sub(a.sent),
         },
     })
 }
@@ -121,10 +116,8 @@ fn sender_number(state: SenderState) -> u8
     ensures { result ≡ sender_number state }
 {
     match state {
-        SenderState::Start => link::RUNNING,
-        SenderState::Wait => link::RUNNING,
-        SenderState::Send { .. } => link::RUNNING,
         SenderState::Ended { outcome } => outcomes::outcome_number(outcome),
+        _ => link::RUNNING,
     }
 }
 
@@ -132,18 +125,15 @@ fn receiver_number(state: ReceiverState) -> u8
     ensures { result ≡ receiver_number state }
 {
     match state {
-        ReceiverState::Waiting => link::RUNNING,
-        ReceiverState::Basic { .. } => link::RUNNING,
-        ReceiverState::Extended { .. } => link::RUNNING,
         ReceiverState::Ended { outcome } => outcomes::outcome_number(outcome),
+        _ => link::RUNNING,
     }
 }
 
 fn saved_after(e: Ends) -> Saved
     ensures { result ≡ saved_after e }
 {
-    let l = e.link;
-    let area = l.area;
+    let area = e.link.area;
     let mut bytes = [0u8; 81];
     let got = e.receiver.record(&mut bytes);
     Saved {
@@ -171,10 +161,8 @@ pub fn session<W: Write>(
     ensures err { OnErr result (is_shown ≡ true) }
 {
     let mut e = begin(before, bytes, block, readings, file.len());
-    let mut i: usize = 0;
-    while i < 29 {
-        e = turn(out, e, is_shown, i, file)?;
-        i += 1;
+    for number in 0..29 {
+        e = turn(out, e, is_shown, number, file)?;
     }
     Ok(saved_after(e))
 }

@@ -1,10 +1,10 @@
 // What a session over a link that breaks leaves, and what is asked of it.
-ghost use Rattle.std.specs.Prelude.{◌≡◌, ◌&&◌, ◌≤◌, ◌-◌, min};
+ghost use Rattle.std.specs.Prelude.{◌≡◌, ◌≤◌};
 ghost use Rattle.records.specs.Record.{number_at};
 ghost use Rattle.run_cuts.specs.Link.{begin as begin_of, nothing as nothing_of, passed as passed_of, kept as kept_of, holds as holds_of, is_of_file, is_sound, is_success, is_whole};
 
 use fields::{buffers, names};
-use numbers::{Number, little_reader};
+use numbers::little_reader;
 
 // Stands in the place of document 01's number for an end that has not ended.
 pub const RUNNING: u8 = 255;
@@ -59,40 +59,11 @@ pub fn nothing() -> Saved
     }
 }
 
-pub fn both(a: bool, b: bool) -> bool
-    ensures { result ≡ a && b }
-{
-    if a {
-        return b;
-    }
-    false
-}
-
-// How many of the bytes that are sent pass.
-pub fn least(sent: usize, left: usize) -> usize
-    ensures { result ≡ min sent left }
-{
-    if sent < left {
-        return sent;
-    }
-    left
-}
-
-// How many pass after that.
-pub fn less(left: usize, sent: usize) -> usize
-    ensures { result ≡ left - sent }
-{
-    if left < sent {
-        return 0;
-    }
-    left - sent
-}
-
 // The bytes that pass.
 pub fn passed(buffer: &[u8; 259], sent: usize, left: usize) -> &[u8]
     ensures { result.now ≡ passed_of sent left buffer.now }
 {
-    fields::part(buffer, 0, least(sent, left))
+    fields::part(buffer, 0, sent.min(left))
 }
 
 // The number that four bytes of a record are.
@@ -100,17 +71,17 @@ fn read_at(b: &[u8], at: usize) -> usize
     ensures { (result ≡ number_at at 4 b.now) × (result ≤ 4294967295) }
 {
     match little_reader::read_little(fields::part(b, at, 4)) {
-        Number::Value(v) => v as usize,
-        Number::Malformed => 0,
+        Some(v) => v as usize,
+        None => 0,
     }
 }
 
 // How many bytes the record says are kept.
+#[tactic(auto, unfolding(crate::specs::Link::kept))]
 pub fn kept(s: Saved) -> usize
     ensures { (result ≡ kept_of s) × (result ≤ 4294967295) }
 {
-    let bytes = s.bytes;
-    read_at(fields::part(&bytes, 0, s.len), 8)
+    read_at(fields::part(&s.bytes, 0, s.len), 8)
 }
 
 // Whether the file has so many bytes, and the area those and behind them what it was.
@@ -129,6 +100,7 @@ fn holds(area: [u8; 320], file: &[u8], count: usize) -> bool
 fn is_of_file(b: &[u8], file: &[u8]) -> bool
     ensures { result ≡ is_of_file b.now file.now }
 {
+    // By `if`s, since the proof goes test by test.
     if names::same(fields::part(b, 0, 4), b"\x16\x00\x02\x00") {
         if read_at(b, 4) == file.len() {
             let rest = fields::part(b, 12, b.len());
@@ -139,38 +111,28 @@ fn is_of_file(b: &[u8], file: &[u8]) -> bool
 }
 
 // Whether the record, where there is one, is the file's and says what the area holds.
+#[tactic(auto, unfolding(crate::specs::Link::is_sound))]
 pub fn is_sound(s: Saved, file: &[u8]) -> bool
     ensures { result ≡ is_sound s file.now }
 {
-    let area = s.area;
-    let bytes = s.bytes;
     if s.len == 0 {
-        return holds(area, file, 0);
+        return holds(s.area, file, 0);
     }
-    if is_of_file(fields::part(&bytes, 0, s.len), file) {
-        return holds(area, file, kept(s));
-    }
-    false
+    is_of_file(fields::part(&s.bytes, 0, s.len), file) && holds(s.area, file, kept(s))
 }
 
 // Whether both ends ended with success.
+#[tactic(auto, unfolding(crate::specs::Link::is_success))]
 pub fn is_success(s: Saved) -> bool
     ensures { result ≡ is_success s }
 {
-    if s.sender == 0 {
-        return s.receiver == 0;
-    }
-    false
+    s.sender == 0 && s.receiver == 0
 }
 
 // Whether they did, and the file is whole.
+#[tactic(auto, unfolding(crate::specs::Link::is_whole))]
 pub fn is_whole(s: Saved, file: &[u8]) -> bool
     ensures { result ≡ is_whole s file.now }
 {
-    if is_success(s) {
-        if kept(s) == file.len() {
-            return is_sound(s, file);
-        }
-    }
-    false
+    is_success(s) && kept(s) == file.len() && is_sound(s, file)
 }

@@ -61,27 +61,29 @@ fn session<W: Write>(
 
 // ---- Cuts
 
-// 0 for no record, else one more than is kept.
-fn told(s: Saved) -> usize {
+// How many bytes are kept, where there is a record.
+fn told(s: Saved) -> Option<usize> {
     if s.len == 0 {
-        return 0;
+        return None;
     }
-    link::kept(s) + 1
+    Some(link::kept(s))
 }
 
 fn show<W: Write>(out: &mut W, at: usize, s: Saved) -> io::Result<()> {
     put_number(out, b"from ", at)?;
-    if s.len == 0 {
-        return put(out, b": no record\n");
+    match told(s) {
+        Some(kept) => {
+            put_number(out, b": kept ", kept)?;
+            put(out, b"\n")
+        }
+        None => put(out, b": no record\n"),
     }
-    put_number(out, b": kept ", link::kept(s))?;
-    put(out, b"\n")
 }
 
 // What came of a cut: what its record told, and whether all was whole.
 #[derive(Clone, Copy)]
 struct Cut {
-    told: usize,
+    told: Option<usize>,
     whole: bool,
 }
 
@@ -98,18 +100,18 @@ fn is_resumed<W: Write>(
     Ok(false)
 }
 
-// The session cut behind this many bytes, and resumed. Shows the record where it told something else before.
+// The session cut behind this many bytes, and resumed. Shows the record where it is the first, or told something else before.
 fn try_cut<W: Write>(
     out: &mut W,
     first: Protocol,
     then: Protocol,
     at: usize,
-    before: usize,
+    before: Option<Cut>,
     file: &[u8],
 ) -> io::Result<Cut> {
     let s = session(out, first, link::nothing(), at, file)?;
     let now = told(s);
-    if now != before {
+    if before.is_none_or(|cut| cut.told != now) {
         show(out, at, s)?;
     }
     Ok(Cut {
@@ -137,34 +139,21 @@ fn cuts<W: Write>(
 ) -> io::Result<()>
     requires { len ≤ 1000 }
 {
-    let mut before = ALL;
+    let mut before = None;
     let mut whole = true;
-    let mut at = 0;
-    while at <= len {
-        let c = try_cut(out, first, then, at, before, file)?;
-        before = c.told;
-        whole = link::both(whole, c.whole);
-        at += 1;
+    for at in 0..=len {
+        let cut = try_cut(out, first, then, at, before, file)?;
+        before = Some(cut);
+        whole = whole && cut.whole;
     }
-    report(out, at, whole)
+    report(out, len + 1, whole)
 }
 
 // The numbers from 0 to 199, over and over.
 fn fill(file: &mut [u8; 270]) {
-    let mut next = 0;
-    let mut i = 0;
-    while i < 270 {
-        file[i] = next;
-        next = number_behind(next);
-        i += 1;
+    for (byte, n) in file.iter_mut().zip((0..200u8).cycle()) {
+        *byte = n;
     }
-}
-
-fn number_behind(n: u8) -> u8 {
-    if n < 199 {
-        return n + 1;
-    }
-    0
 }
 
 fn cut_all<W: Write>(out: &mut W, file: &[u8; 270]) -> io::Result<()> {
@@ -199,9 +188,9 @@ fn put_numbers<W: Write>(out: &mut W, s: Saved) -> io::Result<()> {
     put(out, b"\n")
 }
 
-// The numbers of both ends as one.
-fn numbers(s: Saved) -> usize {
-    s.sender as usize * 256 + s.receiver as usize
+// The numbers of both ends.
+fn numbers(s: Saved) -> (u8, u8) {
+    (s.sender, s.receiver)
 }
 
 // Goes on from so many kept bytes: the line has 34, the OK 12, and then those of the file pass. Shows how it ends where it ended otherwise before.
@@ -209,9 +198,9 @@ fn try_apart<W: Write>(
     out: &mut W,
     readings: Readings,
     kept: usize,
-    before: usize,
+    before: Option<(u8, u8)>,
     file: &[u8],
-) -> io::Result<usize>
+) -> io::Result<(u8, u8)>
     requires { kept ≤ 1000 }
 {
     let s = session(
@@ -223,7 +212,7 @@ fn try_apart<W: Write>(
     )?;
     let r = bin_link::session(out, s, ALL, 8, readings, false, file)?;
     let now = numbers(r);
-    if now != before {
+    if before != Some(now) {
         put_number(out, b"from kept ", link::kept(s))?;
         put_numbers(out, r)?;
     }
@@ -235,11 +224,9 @@ fn apart<W: Write>(out: &mut W, readings: Readings, file: &[u8]) -> io::Result<(
     put(out, b"no record")?;
     let r = bin_link::session(out, link::nothing(), ALL, 8, readings, false, file)?;
     put_numbers(out, r)?;
-    let mut before = ALL;
-    let mut kept: usize = 0;
-    while kept <= 20 {
-        before = try_apart(out, readings, kept, before, file)?;
-        kept += 1;
+    let mut before = None;
+    for kept in 0..=20 {
+        before = Some(try_apart(out, readings, kept, before, file)?);
     }
     put(out, b"no bytes")?;
     let r = bin_link::session(out, link::nothing(), ALL, 8, readings, false, b"")?;
@@ -291,10 +278,8 @@ fn show_block<W: Write>(out: &mut W, file: &[u8], block: usize) -> io::Result<()
 fn blocks<W: Write>(out: &mut W, file: &[u8]) -> io::Result<()> {
     put_text(out, b"file ", file)?;
     put(out, b"\n")?;
-    let mut block: usize = 1;
-    while block <= 12 {
+    for block in 1..=12 {
         show_block(out, file, block)?;
-        block += 1;
     }
     Ok(())
 }

@@ -6,7 +6,6 @@ ghost use Rattle.run_cuts.specs.YappLink.{receiver_of, begin as begin_of, send a
 use crate::link;
 use crate::link::{Link, Saved};
 use calls::outcomes;
-use fields::Stamp;
 use yapp::{ReceiverState, SenderState};
 use yapp_receiver::{Receiver, ReceiverAnswer};
 use yapp_sender::{Sender, SenderAnswer};
@@ -19,27 +18,29 @@ struct Ends {
     link: Link,
 }
 
+#[tactic(auto, unfolding(crate::specs::YappLink::receiver_of))]
 fn receiver_of(s: Saved, checks: bool) -> Receiver
     ensures { result ≡ receiver_of s checks }
 {
-    let bytes = s.bytes;
     if s.len == 0 {
         return Receiver::fresh(320, true, checks);
     }
-    Receiver::resume(fields::part(&bytes, 0, s.len), 320, true, checks)
+    Receiver::resume(fields::part(&s.bytes, 0, s.len), 320, true, checks)
 }
 
+#[tactic(auto, unfolding(crate::specs::YappLink::begin))]
 fn begin(before: Saved, bytes: usize, checks: bool, size: usize) -> Ends
     ensures { result ≡ begin_of before bytes checks size }
 {
     Ends {
-        sender: Sender::begin(b"abc.txt", size, 100, Stamp::Present(0x5A21_4800), true),
+        sender: Sender::begin(b"abc.txt", size, 100, Some(0x5A21_4800), true),
         receiver: receiver_of(before, checks),
         link: link::begin(before, bytes),
     }
 }
 
 // The sender gets what came of the answer; where nothing was answered, it may send.
+#[tactic(auto, unfolding(crate::specs::YappLink::send))]
 fn send(m: Sender, answered: usize, heard: &[u8], file: &[u8], out: &mut [u8; 259]) -> SenderAnswer
     ensures { send_of m answered heard.now file.now out.old ≡ record { answer = result; reply = out.new } }
 {
@@ -65,21 +66,18 @@ fn turn(e: Ends, file: &[u8]) -> Ends
     let mut back = l.back;
     let heard = link::passed(&back, l.answered, l.left);
     let a = send(e.sender, l.answered, heard, file, &mut to);
-    let left = link::less(l.left, l.answered);
+    let left = l.left.saturating_sub(l.answered);
     let came = link::passed(&to, a.sent, left);
     let b = take(e.receiver, came, &mut area, &mut back);
-    let sender = a.sender;
-    let receiver = b.receiver;
-    let rest = link::less(left, a.sent);
     Ends {
-        sender,
-        receiver,
+        sender: a.sender,
+        receiver: b.receiver,
         link: Link {
             area,
             to,
             back,
             answered: b.sent,
-            left: rest,
+            left: left.saturating_sub(a.sent),
         },
     }
 }
@@ -88,13 +86,8 @@ fn sender_number(state: SenderState) -> u8
     ensures { result ≡ sender_number state }
 {
     match state {
-        SenderState::S { .. } => link::RUNNING,
-        SenderState::SH => link::RUNNING,
-        SenderState::SD { .. } => link::RUNNING,
-        SenderState::SE => link::RUNNING,
-        SenderState::ST => link::RUNNING,
-        SenderState::CW { .. } => link::RUNNING,
         SenderState::Ended { outcome } => outcomes::outcome_number(outcome),
+        _ => link::RUNNING,
     }
 }
 
@@ -102,19 +95,15 @@ fn receiver_number(state: ReceiverState) -> u8
     ensures { result ≡ receiver_number state }
 {
     match state {
-        ReceiverState::R => link::RUNNING,
-        ReceiverState::RH { .. } => link::RUNNING,
-        ReceiverState::RD => link::RUNNING,
-        ReceiverState::CW { .. } => link::RUNNING,
         ReceiverState::Ended { outcome } => outcomes::outcome_number(outcome),
+        _ => link::RUNNING,
     }
 }
 
 fn saved_after(e: Ends) -> Saved
     ensures { result ≡ saved_after e }
 {
-    let l = e.link;
-    let area = l.area;
+    let area = e.link.area;
     let mut bytes = [0u8; 81];
     let got = e.receiver.record(&mut bytes);
     Saved {
@@ -132,10 +121,8 @@ pub fn session(before: Saved, bytes: usize, checks: bool, file: &[u8]) -> Saved
     ensures { result ≡ session_of before bytes checks file.now }
 {
     let mut e = begin(before, bytes, checks, file.len());
-    let mut i: usize = 0;
-    while i < 9 {
+    for _ in 0..9u8 {
         e = turn(e, file);
-        i += 1;
     }
     saved_after(e)
 }

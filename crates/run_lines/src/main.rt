@@ -4,17 +4,13 @@
 use calls::Outcome;
 use fields::Place;
 use lines::{Frame, Kept, Line, line_reader};
-use numbers::hex_writer;
 use script::printing::{put, put_bytes, put_number, put_outcome};
-use script::reading::{before, behind};
+use script::reading::before;
 use std::io;
 use std::io::Write;
 
 fn put_stamp<W: Write>(out: &mut W, v: u32) -> io::Result<()> {
-    let mut digits = [0u8; 8];
-    hex_writer::append_hex(&mut digits, 0, v);
-    put(out, b" stamp ")?;
-    put(out, &digits)
+    write!(out, " stamp {v:08X}")
 }
 
 fn put_name<W: Write>(out: &mut W, label: &[u8], b: &[u8], p: Place) -> io::Result<()> {
@@ -24,7 +20,7 @@ fn put_name<W: Write>(out: &mut W, label: &[u8], b: &[u8], p: Place) -> io::Resu
 
 fn put_line<W: Write>(out: &mut W, b: &[u8], l: Line) -> io::Result<()> {
     put_number(out, b"line size ", l.size as usize)?;
-    put_number(out, b" crc ", l.crc as usize)?;
+    put_number(out, b" crc ", usize::from(l.crc))?;
     put_stamp(out, l.stamp)?;
     if l.resumable {
         put(out, b" resume")?;
@@ -35,7 +31,7 @@ fn put_line<W: Write>(out: &mut W, b: &[u8], l: Line) -> io::Result<()> {
 fn put_kept<W: Write>(out: &mut W, b: &[u8], k: Kept) -> io::Result<()> {
     put_name(out, b"OK name ", b, k.name)?;
     put_number(out, b" kept ", k.kept as usize)?;
-    put_number(out, b" crc ", k.crc as usize)
+    put_number(out, b" crc ", usize::from(k.crc))
 }
 
 fn put_frame<W: Write>(out: &mut W, b: &[u8]) -> io::Result<()> {
@@ -68,21 +64,16 @@ fn show<W: Write>(out: &mut W, b: &[u8]) -> io::Result<()> {
 
 // Every beginning of b, from the empty one to all but the last byte.
 fn show_beginnings<W: Write>(out: &mut W, b: &[u8]) -> io::Result<()> {
-    let mut n = 0;
-    while n < b.len() {
-        show(out, fields::part(b, 0, n))?;
-        n += 1;
+    for n in 0..b.len() {
+        show(out, &b[..n])?;
     }
     Ok(())
 }
 
 // Every frame of these, with a `~` behind each.
 fn show_all<W: Write>(out: &mut W, frames: &[u8]) -> io::Result<()> {
-    let mut rest = frames;
-    while 0 < rest.len() {
-        show(out, before(rest, b'~'))?;
-        let next = behind(rest, b'~');
-        rest = next;
+    for frame in frames.split_inclusive(|c| *c == b'~') {
+        show(out, before(frame, b'~'))?;
     }
     Ok(())
 }

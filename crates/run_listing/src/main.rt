@@ -1,34 +1,126 @@
 // Lists built-in captures, one after the other, each below a title and handed over in chunks of 7 bytes.
 #![tactic(auto)]
 
-ghost use Rattle.std.specs.Prelude.{◌≤◌, ◌<◌};
-
 use listing::Lister;
 use script::printing::put;
-use script::reading::{before, behind};
 use std::io;
 use std::io::Write;
 
-// Where the chunk ends that starts here.
-fn chunk_end(at: usize, len: usize) -> usize
-    requires { at < len }
-    ensures { (at < result) × (result ≤ len) }
-{
-    if 7 < len - at { at + 7 } else { len }
+#[derive(Clone, Copy)]
+struct Case {
+    // A line.
+    title: &'static [u8],
+    capture: &'static [u8],
 }
+
+const CAPTURES: [Case; 7] = [
+    Case {
+        title: b"== empty\n",
+        capture: b"",
+    },
+    Case {
+        title: b"== every kind\n",
+        capture: b"\x06\x01\x06\x02\x06\x03\x06\x04\x06\x05\x06\x06\x05\x01\x05\x02\x03*.*\x01\x0Blot7.csv\x003\x00\x02\x03ABC\x03\x01\x04\x01\x15\x03one\x15\x05R\x0044\x00\x18\x00\x10\x02hi",
+    },
+    Case {
+        title: b"== drops\n",
+        capture: b"\x05\x01\x00\x06\x01\xFF\x06\x07\x05\x03\x03\x02\x02\x01A\x04\x02\x06\x00AB\x04\x01",
+    },
+    Case {
+        title: b"== resumes\n",
+        capture: b"\x15\x05R\x0044\x00\x15\x07R\x0044\x00C\x00\x15\x0BR\x0012345678\x00",
+    },
+    Case {
+        title: b"== not ready\n",
+        capture: b"\x15\x04R\x0044\x15\x00\x15\x06R\x0044\x00C\x15\x0CR\x00123456789\x00\x15\x03R\x00\x00\x15\x08R\x0044\x00C\x00X",
+    },
+    Case {
+        title: b"== malformed headers\n",
+        capture: b"\x01\x00\x01\x03abc\x01\x06a/b\x003\x00\x01\x04a\x00x\x00",
+    },
+    Case {
+        title: b"== headers with an option\n",
+        capture: b"\x01\x05a\x003\x00z\x01\x0Da\x003\x005A214800\x00",
+    },
+];
+
+// A packet each.
+const PACKETS: [Case; 16] = [
+    Case {
+        title: b"== RR cut\n",
+        capture: b"\x06\x01",
+    },
+    Case {
+        title: b"== RF cut\n",
+        capture: b"\x06\x02",
+    },
+    Case {
+        title: b"== AF cut\n",
+        capture: b"\x06\x03",
+    },
+    Case {
+        title: b"== AT cut\n",
+        capture: b"\x06\x04",
+    },
+    Case {
+        title: b"== CA cut\n",
+        capture: b"\x06\x05",
+    },
+    Case {
+        title: b"== RT cut\n",
+        capture: b"\x06\x06",
+    },
+    Case {
+        title: b"== SI cut\n",
+        capture: b"\x05\x01",
+    },
+    Case {
+        title: b"== RI cut\n",
+        capture: b"\x05\x02\x03*.*",
+    },
+    Case {
+        title: b"== HD cut\n",
+        capture: b"\x01\x0Blot7.csv\x003\x00",
+    },
+    Case {
+        title: b"== DT cut\n",
+        capture: b"\x02\x03ABC",
+    },
+    Case {
+        title: b"== EF cut\n",
+        capture: b"\x03\x01",
+    },
+    Case {
+        title: b"== ET cut\n",
+        capture: b"\x04\x01",
+    },
+    Case {
+        title: b"== NR cut\n",
+        capture: b"\x15\x03one",
+    },
+    Case {
+        title: b"== RE cut\n",
+        capture: b"\x15\x05R\x0044\x00",
+    },
+    Case {
+        title: b"== CN cut\n",
+        capture: b"\x18\x04stop",
+    },
+    Case {
+        title: b"== TX cut\n",
+        capture: b"\x10\x02hi",
+    },
+];
 
 fn feed<W: Write>(out: &mut W, lister: Lister, s: &[u8]) -> io::Result<Lister> {
     let mut l = lister;
     let mut line = [0; 32];
-    let mut at = 0;
-    while at < s.len() {
-        let end = chunk_end(at, s.len());
-        let got = l.step(&s[at..end], &mut line);
-        let next = got.lister;
-        let written = got.written;
-        l = next;
-        at += got.taken;
-        put(out, &line[..written])?;
+    let mut rest = s;
+    while !rest.is_empty() {
+        let got = l.step(fields::part(rest, 0, 7), &mut line);
+        l = got.lister;
+        rest = &rest[got.taken..];
+        put(out, &line[..got.written])?;
     }
     Ok(l)
 }
@@ -42,84 +134,31 @@ fn write_end<W: Write>(out: &mut W, lister: Lister) -> io::Result<()> {
 // Writes the title and the header line.
 fn start<W: Write>(out: &mut W, title: &[u8]) -> io::Result<Lister> {
     put(out, title)?;
-    let head = listing::heading();
-    put(out, &head)?;
+    put(out, &listing::heading())?;
     Ok(Lister::new())
 }
 
-// A case is its title's line and behind it the capture.
-fn list<W: Write>(out: &mut W, case: &[u8]) -> io::Result<()> {
-    let at = fields::find(case, b'\n') + 1;
-    let l = start(out, fields::part(case, 0, at))?;
-    let done = feed(out, l, fields::part(case, at, case.len()))?;
+fn list<W: Write>(out: &mut W, title: &[u8], capture: &[u8]) -> io::Result<()> {
+    let l = start(out, title)?;
+    let done = feed(out, l, capture)?;
     write_end(out, done)
 }
 
-// The case whose capture is a packet, cut behind each of the packet's bytes but the last.
-fn cuts<W: Write>(out: &mut W, case: &[u8]) -> io::Result<()> {
-    let mut n = fields::find(case, b'\n') + 2;
-    while n < case.len() {
-        list(out, fields::part(case, 0, n))?;
-        n += 1;
-    }
-    Ok(())
-}
-
-fn show<W: Write>(out: &mut W, case: &[u8], is_cut: bool) -> io::Result<()> {
-    if is_cut {
-        return cuts(out, case);
-    }
-    list(out, case)
-}
-
-// Every case of these, with a `~` behind each.
-fn show_all<W: Write>(out: &mut W, cases: &[u8], are_cut: bool) -> io::Result<()> {
-    let mut rest = cases;
-    while 0 < rest.len() {
-        show(out, before(rest, b'~'), are_cut)?;
-        let next = behind(rest, b'~');
-        rest = next;
-    }
-    Ok(())
-}
-
 fn captures<W: Write>(out: &mut W) -> io::Result<()> {
-    show_all(
-        out,
-        b"== empty\n~\
-          == every kind\n\x06\x01\x06\x02\x06\x03\x06\x04\x06\x05\x06\x06\x05\x01\x05\x02\x03*.*\x01\x0Blot7.csv\x003\x00\x02\x03ABC\x03\x01\x04\x01\x15\x03one\x15\x05R\x0044\x00\x18\x00\x10\x02hi~\
-          == drops\n\x05\x01\x00\x06\x01\xFF\x06\x07\x05\x03\x03\x02\x02\x01A\x04\x02\x06\x00AB\x04\x01~\
-          == resumes\n\x15\x05R\x0044\x00\x15\x07R\x0044\x00C\x00\x15\x0BR\x0012345678\x00~\
-          == not ready\n\x15\x04R\x0044\x15\x00\x15\x06R\x0044\x00C\x15\x0CR\x00123456789\x00\x15\x03R\x00\x00\x15\x08R\x0044\x00C\x00X~\
-          == malformed headers\n\x01\x00\x01\x03abc\x01\x06a/b\x003\x00\x01\x04a\x00x\x00~\
-          == headers with an option\n\x01\x05a\x003\x00z\x01\x0Da\x003\x005A214800\x00~\
-          ",
-        false,
-    )
+    for Case { title, capture } in CAPTURES {
+        list(out, title, capture)?;
+    }
+    Ok(())
 }
 
+// Each packet cut behind each of its bytes but the last.
 fn packets<W: Write>(out: &mut W) -> io::Result<()> {
-    show_all(
-        out,
-        b"== RR cut\n\x06\x01~\
-          == RF cut\n\x06\x02~\
-          == AF cut\n\x06\x03~\
-          == AT cut\n\x06\x04~\
-          == CA cut\n\x06\x05~\
-          == RT cut\n\x06\x06~\
-          == SI cut\n\x05\x01~\
-          == RI cut\n\x05\x02\x03*.*~\
-          == HD cut\n\x01\x0Blot7.csv\x003\x00~\
-          == DT cut\n\x02\x03ABC~\
-          == EF cut\n\x03\x01~\
-          == ET cut\n\x04\x01~\
-          == NR cut\n\x15\x03one~\
-          == RE cut\n\x15\x05R\x0044\x00~\
-          == CN cut\n\x18\x04stop~\
-          == TX cut\n\x10\x02hi~\
-          ",
-        true,
-    )
+    for Case { title, capture } in PACKETS {
+        for n in 1..capture.len() {
+            list(out, title, &capture[..n])?;
+        }
+    }
+    Ok(())
 }
 
 // More bytes than any buffer of this program has: SI, a DT of 256 bytes 20 times, ET.
@@ -129,22 +168,20 @@ fn long<W: Write>(out: &mut W) -> io::Result<()> {
     block[1] = 0;
     let mut l = start(out, b"== long\n")?;
     l = feed(out, l, b"\x05\x01")?;
-    let mut i: usize = 0;
-    while i < 20 {
+    for _ in 0..20 {
         l = feed(out, l, &block)?;
-        i += 1;
     }
     l = feed(out, l, b"\x04\x01")?;
     write_end(out, l)
 }
 
 // Document 01's example, cut inside HD and inside DT.
-fn parts<W: Write>(out: &mut W, capture: &[u8]) -> io::Result<()> {
-    let head = start(out, b"== in parts\n")?;
-    let first = feed(out, head, fields::part(capture, 0, 9))?;
-    let second = feed(out, first, fields::part(capture, 9, 8))?;
-    let third = feed(out, second, fields::part(capture, 17, capture.len()))?;
-    write_end(out, third)
+fn parts<W: Write>(out: &mut W) -> io::Result<()> {
+    let mut l = start(out, b"== in parts\n")?;
+    l = feed(out, l, b"\x05\x01\x01\x0Blot7.")?;
+    l = feed(out, l, b"csv\x003\x00\x02\x03")?;
+    l = feed(out, l, b"ABC\x03\x01\x04\x01")?;
+    write_end(out, l)
 }
 
 fn main(rt: HostRuntime) -> io::Result<()> {
@@ -152,8 +189,5 @@ fn main(rt: HostRuntime) -> io::Result<()> {
     captures(out)?;
     packets(out)?;
     long(out)?;
-    parts(
-        out,
-        b"\x05\x01\x01\x0Blot7.csv\x003\x00\x02\x03ABC\x03\x01\x04\x01",
-    )
+    parts(out)
 }

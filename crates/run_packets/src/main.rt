@@ -3,7 +3,7 @@
 #![tactic(auto)]
 
 use calls::outcomes;
-use fields::{Fault, Flaw, Place, Stamp, Written};
+use fields::{Fault, Flaw, Place, WriteError};
 use packets::{Block, Header, Packet, Resume, packet_reader};
 use script::printing::{put, put_bytes, put_hex, put_number, put_touched};
 use std::io;
@@ -14,30 +14,38 @@ use std::io::Write;
 fn put_written<W: Write>(
     out: &mut W,
     label: &[u8],
-    written: Written,
+    written: Result<usize, WriteError>,
     reply: &[u8],
 ) -> io::Result<()> {
     put(out, label)?;
     put(out, b":")?;
     match written {
-        Written::Bytes(n) => put_hex(out, fields::part(fields::part(reply, 0, n), 0, 16))?,
-        _ => put_number(out, b" ", outcomes::written_number(written) as usize)?,
+        Ok(n) => put_hex(out, fields::part(fields::part(reply, 0, n), 0, 16))?,
+        Err(_) => put_number(out, b" ", usize::from(outcomes::written_number(written)))?,
     }
     put_touched(out, b"; reply", reply)?;
     put(out, b"\n")
 }
 
-// Into a reply buffer of 259 bytes, and into one of 258.
+// Into a reply buffer that is all EE.
+fn write_into<W: Write>(
+    out: &mut W,
+    label: &[u8],
+    packet: Packet,
+    source: &[u8],
+    reply: &mut [u8],
+) -> io::Result<()> {
+    let written = packet_writer::write(packet, source, false, reply);
+    put_written(out, label, written, reply)
+}
+
+// Of 259 bytes, and of 258.
 fn write<W: Write>(out: &mut W, label: &[u8], packet: Packet, source: &[u8]) -> io::Result<()> {
-    let mut reply = [0xEE; 259];
-    let written = packet_writer::write(packet, source, false, &mut reply);
-    put_written(out, label, written, &reply)
+    write_into(out, label, packet, source, &mut [0xEE; 259])
 }
 
 fn write_258<W: Write>(out: &mut W, label: &[u8], packet: Packet, source: &[u8]) -> io::Result<()> {
-    let mut reply = [0xEE; 258];
-    let written = packet_writer::write(packet, source, false, &mut reply);
-    put_written(out, label, written, &reply)
+    write_into(out, label, packet, source, &mut [0xEE; 258])
 }
 
 // The first bytes of a source.
@@ -84,7 +92,7 @@ fn write_hd<W: Write>(out: &mut W, label: &[u8], name: &[u8], size: u32) -> io::
     let header = Header {
         name: first(name.len()),
         size,
-        stamp: Stamp::Absent,
+        stamp: None,
     };
     write(out, label, Packet::HD(header), name)
 }

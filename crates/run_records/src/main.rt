@@ -3,36 +3,34 @@
 #![tactic(auto)]
 
 use calls::outcomes;
-use fields::{Stamp, Written};
-use records::{Record, RecordRead, record_reader, record_writer};
+use fields::WriteError;
+use records::{Record, record_reader, record_writer};
 use script::printing::{put, put_hex, put_number};
 use script::reading::{before, behind};
 use std::io;
 use std::io::Write;
 
-fn print_stamp<W: Write>(out: &mut W, stamp: Stamp) -> io::Result<()> {
+fn print_stamp<W: Write>(out: &mut W, stamp: Option<u32>) -> io::Result<()> {
     match stamp {
-        Stamp::Present(v) => put_number(out, b" stamp ", v as usize),
-        Stamp::Absent => put(out, b" no stamp"),
+        Some(v) => put_number(out, b" stamp ", v as usize),
+        None => put(out, b" no stamp"),
     }
 }
 
 fn print_record<W: Write>(out: &mut W, b: &[u8], r: Record) -> io::Result<()> {
-    let stamp = r.stamp;
-    let name = r.name;
     put_number(out, b" size ", r.size as usize)?;
     put_number(out, b" kept ", r.kept as usize)?;
-    print_stamp(out, stamp)?;
+    print_stamp(out, r.stamp)?;
     put(out, b" name ")?;
-    put(out, fields::bytes_at(b, name))
+    put(out, fields::bytes_at(b, r.name))
 }
 
 // What the bytes read as.
 fn print_read<W: Write>(out: &mut W, b: &[u8]) -> io::Result<()> {
     let read = record_reader::record_of(b);
     match read {
-        RecordRead::Good(r) => print_record(out, b, r)?,
-        RecordRead::Unreadable => put_number(out, b" ", outcomes::read_number(read) as usize)?,
+        Some(r) => print_record(out, b, r)?,
+        None => put_number(out, b" ", usize::from(outcomes::read_number(read)))?,
     }
     put(out, b"\n")
 }
@@ -49,15 +47,19 @@ fn print_written<W: Write>(
     out: &mut W,
     label: &[u8],
     buf: &[u8],
-    written: Written,
+    written: Result<usize, WriteError>,
 ) -> io::Result<()> {
-    let Written::Bytes(n) = written else {
-        put_number(out, b" ", outcomes::written_number(written) as usize)?;
-        return put(out, b"\n");
-    };
-    put_hex(out, fields::part(buf, 0, n))?;
-    put(out, b"\n")?;
-    read(out, label, fields::part(buf, 0, n))
+    match written {
+        Ok(n) => {
+            put_hex(out, fields::part(buf, 0, n))?;
+            put(out, b"\n")?;
+            read(out, label, fields::part(buf, 0, n))
+        }
+        Err(_) => {
+            put_number(out, b" ", usize::from(outcomes::written_number(written)))?;
+            put(out, b"\n")
+        }
+    }
 }
 
 // A case is a label, a colon and what stands behind it. Writes the record of a name, which stands behind the label, into buf.
@@ -67,7 +69,7 @@ fn save<W: Write>(
     buf: &mut [u8],
     size: u32,
     kept: u32,
-    stamp: Stamp,
+    stamp: Option<u32>,
 ) -> io::Result<()> {
     let label = before(case, b':');
     put(out, b"write ")?;
@@ -78,46 +80,50 @@ fn save<W: Write>(
 }
 
 // Into 81 bytes.
-fn write<W: Write>(out: &mut W, case: &[u8], size: u32, kept: u32, stamp: Stamp) -> io::Result<()> {
-    let mut room = [0u8; 81];
-    save(out, case, &mut room, size, kept, stamp)
+fn write<W: Write>(
+    out: &mut W,
+    case: &[u8],
+    size: u32,
+    kept: u32,
+    stamp: Option<u32>,
+) -> io::Result<()> {
+    save(out, case, &mut [0; 81], size, kept, stamp)
 }
 
 // Into 80 bytes, without a stamp.
 fn write_80<W: Write>(out: &mut W, case: &[u8], size: u32, kept: u32) -> io::Result<()> {
-    let mut room = [0u8; 80];
-    save(out, case, &mut room, size, kept, Stamp::Absent)
+    save(out, case, &mut [0; 80], size, kept, None)
 }
 
 fn write_stamps<W: Write>(out: &mut W) -> io::Result<()> {
-    write(out, b"lot7.csv:lot7.csv", 300, 200, Stamp::Absent)?;
+    write(out, b"lot7.csv:lot7.csv", 300, 200, None)?;
     write(
         out,
         b"lot7.csv with a stamp:lot7.csv",
         300,
         200,
-        Stamp::Present(0x5A21_4800),
+        Some(0x5A21_4800),
     )?;
-    write(out, b"a stamp of 0:lot7.csv", 300, 200, Stamp::Present(0))
+    write(out, b"a stamp of 0:lot7.csv", 300, 200, Some(0))
 }
 
 fn write_within<W: Write>(out: &mut W) -> io::Result<()> {
-    write(out, b"the shortest:a", 0, 0, Stamp::Absent)?;
+    write(out, b"the shortest:a", 0, 0, None)?;
     write(
         out,
         b"a name of 64:0123456789abcdef0123456789abcdef0123456789abcdef0123456789abcdef",
         99_999_999,
         0xFFFF_FFFF,
-        Stamp::Absent,
+        None,
     )?;
     write(
         out,
         b"the longest:0123456789abcdef0123456789abcdef0123456789abcdef0123456789abcdef",
         99_999_999,
         0xFFFF_FFFF,
-        Stamp::Present(0xFFFF_FFFF),
+        Some(0xFFFF_FFFF),
     )?;
-    write(out, b"kept over size:lot7.csv", 200, 300, Stamp::Absent)
+    write(out, b"kept over size:lot7.csv", 200, 300, None)
 }
 
 fn write_outside<W: Write>(out: &mut W) -> io::Result<()> {
@@ -126,26 +132,14 @@ fn write_outside<W: Write>(out: &mut W) -> io::Result<()> {
         b"a name of 65:0123456789abcdef0123456789abcdef0123456789abcdef0123456789abcdefg",
         300,
         200,
-        Stamp::Absent,
+        None,
     )?;
-    write(out, b"no name:", 300, 200, Stamp::Absent)?;
-    write(
-        out,
-        b"a name with a slash:lot/7.csv",
-        300,
-        200,
-        Stamp::Absent,
-    )
+    write(out, b"no name:", 300, 200, None)?;
+    write(out, b"a name with a slash:lot/7.csv", 300, 200, None)
 }
 
 fn write_small<W: Write>(out: &mut W) -> io::Result<()> {
-    write(
-        out,
-        b"size 100000000:lot7.csv",
-        100_000_000,
-        200,
-        Stamp::Absent,
-    )?;
+    write(out, b"size 100000000:lot7.csv", 100_000_000, 200, None)?;
     write_80(out, b"into 80 bytes:lot7.csv", 300, 200)?;
     write_80(out, b"no name into 80 bytes:", 300, 200)
 }
@@ -156,11 +150,8 @@ fn read_case<W: Write>(out: &mut W, case: &[u8]) -> io::Result<()> {
 
 // Every case of these, with a `~` behind each.
 fn read_all<W: Write>(out: &mut W, cases: &[u8]) -> io::Result<()> {
-    let mut rest = cases;
-    while 0 < rest.len() {
-        read_case(out, before(rest, b'~'))?;
-        let next = behind(rest, b'~');
-        rest = next;
+    for case in cases.split_inclusive(|c| *c == b'~') {
+        read_case(out, before(case, b'~'))?;
     }
     Ok(())
 }
@@ -223,10 +214,8 @@ fn read_first<W: Write>(out: &mut W, b: &[u8], n: usize) -> io::Result<()> {
 
 // Every beginning of b, from nothing to all but the last byte.
 fn read_beginnings<W: Write>(out: &mut W, b: &[u8]) -> io::Result<()> {
-    let mut n = 0;
-    while n < b.len() {
+    for n in 0..b.len() {
         read_first(out, b, n)?;
-        n += 1;
     }
     Ok(())
 }

@@ -1,2 +1,4 @@
 -- Laws of the definitions of specs/.
 pub mod Script
+pub mod Words
+pub mod Printed

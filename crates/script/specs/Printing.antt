@@ -1,5 +1,8 @@
 -- What is printed of bytes, numbers, outcomes and buffers.
-use Rattle.std.specs.Prelude.{ℕ, ◌-◌, ◌≤◌, ◌<◌, ◌≡◌, ◌≢◌, ◌&&◌, List, [], ◌∷◌, ◌++◌, length, get_or, leb, eqb, codes, replicate, Option}
+use Rattle.fields.specs.declared.WriteError.{WriteError}
+use Rattle.calls.specs.declared.Refusal.{Refusal}
+use Rattle.script.specs.declared.printing.Change.{Change}
+use Rattle.std.specs.Prelude.{ℕ, ◌-◌, ◌≤◌, ◌<◌, ◌≡◌, ◌≢◌, ◌&&◌, List, [], ◌∷◌, ◌++◌, length, get_or, leb, eqb, codes, replicate, Option, None, Result, Some}
 use Rattle.std.specs.Fmt.{decimal}
 use Rattle.std.specs.List.{flat_map}
 use Rattle.std.specs.Io.KnownBytes.{Appends}
@@ -9,12 +12,7 @@ use Rattle.numbers.specs.Writing.{hex}
 use Rattle.calls.specs.Numbers.{outcome_number, outcome_offset, status_number}
 use Rattle.calls.specs.Recording.{record_number}
 use Rattle.calls.specs.Count.{count_of}
-use Rattle.calls.specs.declared.Offset.{Offset}
-use Rattle.calls.specs.declared.Offset.TheVariants.{At, Nowhere}
 use Rattle.calls.specs.declared.Outcome.{Outcome}
-use Rattle.calls.specs.declared.Status.{Status}
-use Rattle.calls.specs.declared.RecordAnswer.{RecordAnswer}
-use Rattle.calls.specs.declared.RecordAnswer.TheVariants.{NoRecord, Record}
 
 abbrev pub numbered : List ℕ → ℕ → List ℕ
 numbered label n = label ++ decimal n
@@ -41,12 +39,31 @@ pub record IsChange (n : ℕ) (a b : List ℕ) (from to : ℕ) : Type 0 where
   pub last : 0 < to → get_or a (to - 1) 0 ≢ get_or b (to - 1) 0
   pub none : to ≡ 0 → from ≡ 0
 
+-- among the first n bytes, what of a is otherwise in b, if anything is
+abbrev pub IsChanged : ℕ → List ℕ → List ℕ → Option Change → Type 0
+IsChanged n a b None = IsChange n a b 0 0
+IsChanged n a b (Some c) = (0 < c.to) × IsChange n a b c.from c.to
+
+-- where a change is from, and to; 0 where there is none
+abbrev pub changed_from : Option Change → ℕ
+changed_from None = 0
+changed_from (Some c) = c.from
+
+abbrev pub changed_to : Option Change → ℕ
+changed_to None = 0
+changed_to (Some c) = c.to
+
 -- a buffer of n bytes as it is lent, up to 259 of them EE
 abbrev pub lent : ℕ → List ℕ
 lent n = part 0 n (replicate 259 0xEE)
 
 abbrev pub change : List ℕ → ℕ → ℕ → List ℕ
 change label from to = label ++ pick (eqb to 0) (codes " untouched") (numbered (codes " ") from ++ numbered (codes "..") to)
+
+-- the same of what was found
+abbrev pub change_text : List ℕ → Option Change → List ℕ
+change_text label None = label ++ codes " untouched"
+change_text label (Some c) = label ++ (numbered (codes " ") c.from ++ numbered (codes "..") c.to)
 
 -- where an area is no longer what it was, and what stands there now
 abbrev pub stored : List ℕ → ℕ → ℕ → List ℕ
@@ -61,19 +78,19 @@ abbrev pub Touched : List ℕ → List ℕ → List ℕ → Option (List ℕ) �
 Touched printed label buf old new =
     (from to : ℕ) × IsChange (length (lent (length buf))) (lent (length buf)) buf from to × Appends old new (printed ++ change label from to)
 
-abbrev pub place : Offset → List ℕ
-place (At n) = numbered (codes " at ") n
-place Nowhere = []
+abbrev pub place : Option ℕ → List ℕ
+place (Some n) = numbered (codes " at ") n
+place None = []
 
 abbrev pub outcome_text : List ℕ → Outcome → List ℕ
 outcome_text label o = numbered label (outcome_number o) ++ place (outcome_offset o)
 
-abbrev pub status_text : Status → List ℕ
+abbrev pub status_text : Result (Unit {0}) Refusal → List ℕ
 status_text s = pick (eqb (status_number s) 0) [] (numbered (codes " refused ") (status_number s))
 
-abbrev pub taken_record : RecordAnswer → List ℕ → List ℕ
-taken_record NoRecord buf = codes " -> none"
-taken_record (Record written) buf = text (codes " -> ") (part 0 (count_of written) buf)
+abbrev pub taken_record : Option (Result ℕ WriteError) → List ℕ → List ℕ
+taken_record None buf = codes " -> none"
+taken_record (Some written) buf = text (codes " -> ") (part 0 (count_of written) buf)
 
-abbrev pub record_text : RecordAnswer → List ℕ → List ℕ
+abbrev pub record_text : Option (Result ℕ WriteError) → List ℕ → List ℕ
 record_text got buf = pick (eqb (record_number got) 0) (taken_record got buf) (numbered (codes " -> ") (record_number got))

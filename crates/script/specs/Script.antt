@@ -1,11 +1,9 @@
 -- A script's words, numbers and bytes, and which scripts are played.
-use Rattle.std.specs.Prelude.{ℕ, zero, suc, ◌+◌, ◌-◌, ◌*◌, Bool, true, false, ◌&&◌, List, [], ◌∷◌, ◌++◌, length, take, drop, get_or, leb, eqb, codes}
+use Rattle.std.specs.Prelude.{ℕ, zero, suc, ◌+◌, ◌-◌, ◌*◌, Bool, true, false, ◌&&◌, List, [], ◌∷◌, ◌++◌, length, take, drop, get_or, leb, eqb, codes, None, Option, Some}
 use Rattle.fields.specs.Pick.{pick}
 use Rattle.fields.specs.Lists.{part, same, up_to}
 use Rattle.fields.specs.Buffer.{over}
 use Rattle.numbers.specs.Reading.{read_size}
-use Rattle.numbers.specs.declared.Number.{Number}
-use Rattle.numbers.specs.declared.Number.TheVariants.{Value, Malformed}
 
 -- the bytes behind the first x; none where there is none
 unfoldable pub behind : ℕ → List ℕ → List ℕ
@@ -17,9 +15,9 @@ word_of zero s = up_to 32 s
 word_of (suc n) s = word_of n (behind 32 s)
 
 -- 0 for what is no number
-abbrev pub value_of : Number → ℕ
-value_of (Value v) = v
-value_of Malformed = 0
+abbrev pub value_of : Option ℕ → ℕ
+value_of (Some v) = v
+value_of None = 0
 
 -- up to nine digits: one more than a file's length has
 unfoldable pub number_of : List ℕ → ℕ

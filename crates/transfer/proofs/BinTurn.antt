@@ -1,29 +1,24 @@
 -- A turn of #BIN#, its beginning and its end, by what each call of the program answers. Assumes nothing.
+use Rattle.fields.specs.declared.WriteError.{WriteError}
+use Rattle.std.specs.Prelude.{Option, Result, ℕ}
 use Prim.Native.Nat.{ℕ}
-use mathlib.Core.Path.{◌≡◌, refl, sym, subst, ap, ◌∙◌}
-use mathlib.Core.Bool.{Bool, true}
-use mathlib.Core.Logic.{◌⊎◌}
+use mathlib.Core.Path.{◌≡◌, refl, sym, ap, ◌∙◌}
+use mathlib.Core.Bool.{Bool}
 use mathlib.Core.List.{List}
-use lib.ListN.{length, take, replicate}
-use lib.Dec.{eqb}
-use Rattle.calls.specs.declared.RecordAnswer.{RecordAnswer}
-use Rattle.calls.specs.Numbers.{outcome_number}
+use lib.ListN.{take, replicate}
 use Rattle.calls.specs.Recording.{record_answer, record_left}
 use Rattle.bin.specs.declared.ReceiverState.{ReceiverState}
 use Rattle.bin_sender.specs.declared.SenderAnswer.{SenderAnswer}
 use Rattle.bin_receiver.specs.declared.Receiver.{Receiver}
 use Rattle.bin_receiver.specs.declared.ReceiverAnswer.{ReceiverAnswer}
 use Rattle.bin_receiver.specs.Receiver.{receive, timeout, record_by}
-use Rattle.transfer.specs.Numbers.{bin_receiver_number}
 use Rattle.calls.specs.Count.{record_count}
 use Rattle.transfer.specs.Link.{after, with_answer, passed}
-use Rattle.transfer.specs.Writes.{Stays}
-use Rattle.transfer.specs.Session.{Standing, Stopped}
-use Rattle.transfer.specs.BinSession.{sends, carried, turn, begin, is_over, is_over_at, saved_of, saved_after, Session}
+use Rattle.transfer.specs.Session.{Standing}
+use Rattle.transfer.specs.BinSession.{sends, carried, turn, is_success, saved_of, saved_after}
 use Rattle.transfer.specs.declared.link.Link.{Link}
 use Rattle.transfer.specs.declared.link.Saved.{Saved}
 use Rattle.transfer.specs.declared.bin_link.Ends.{Ends}
-use Rattle.transfer.proofs.Turns.{Going, stops}
 
 pub carries : (m : Receiver) (a : SenderAnswer) (to : List ℕ) (l : Link) (area packet came : List ℕ) (b : ReceiverAnswer)
     (area' back : List ℕ) (sent next : Link) → packet ≡ take a.sent to → came ≡ passed l packet
@@ -47,31 +42,7 @@ pub saves-after : (m : Receiver) (area back : List ℕ) (a : ReceiverAnswer) (s 
 unfolding saved_after
 saves-after m area back a s p q = q ∙ ap (λ x. saved_of x.answer.receiver) (sym p)
 
-pub saves : (m : Receiver) (bytes : List ℕ) (got : RecordAnswer) (n k : ℕ) (st : ReceiverState)
+pub saves : (m : Receiver) (bytes : List ℕ) (got : Option (Result ℕ WriteError)) (n : ℕ) (st : ReceiverState) (w : Bool)
     → bytes ≡ record_left (record_by m) (replicate 81 0) → got ≡ record_answer (record_by m) (replicate 81 0) → n ≡ record_count got
-    → st ≡ m.core.state → k ≡ bin_receiver_number st → record { bytes = bytes; count = n; whole = eqb k 1920 } ≡ saved_of m
-unfolding outcome_number
-saves m bytes got n k st p q r s t =
-    ap (λ (x : List ℕ). record { bytes = x; count = n; whole = eqb k 1920 }) p
-    ∙ ap (λ (x : ℕ). record { bytes = record_left (record_by m) (replicate 81 0); count = x; whole = eqb k 1920 }) (r ∙ ap record_count q)
-    ∙ ap (λ (x : ℕ). record {
-      bytes = record_left (record_by m) (replicate 81 0);
-      count = record_count (record_answer (record_by m) (replicate 81 0));
-      whole = eqb x 1920;
-    }) (t ∙ ap bin_receiver_number s)
-
--- a session, from where its loop was left
-pub ends : (before : Saved) (name : List ℕ) (bytes : ℕ) (file area : List ℕ) (had failed : Bool) (e₀ e : Ends)
-    (area' : List ℕ) (rest : ℕ) (s : Saved) → e₀ ≡ begin before name bytes (length file) (length area)
-    → Going (turn file) is_over_at (record { ends = e₀; area = area }) had (record { ends = e; area = area' }) rest
-    → (is_over e ≡ true) ⊎ ((rest ≡ 0) ⊎ (failed ≡ true)) → s ≡ saved_after e.receiver area' → Stays had failed
-    → Session before name bytes file area had failed s area'
-ends before name bytes file area had failed e₀ e area' rest s b g w l f =
-    record {
-      last = record { ends = e; area = area' };
-      stopped = subst (λ (x : Ends). Stopped (turn file) is_over_at (record { ends = x; area = area }) had failed (record { ends = e; area = area' })) b
-          (stops (turn file) is_over_at (record { ends = e₀; area = area }) had (record { ends = e; area = area' }) rest failed g w);
-      saves = l;
-      keeps = refl;
-      stays = f;
-    }
+    → st ≡ m.core.state → w ≡ is_success st → record { bytes = bytes; count = n; whole = w } ≡ saved_of m
+saves m bytes got n st w p q r s t = rw (p, r, q, t, s) refl

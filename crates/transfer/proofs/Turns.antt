@@ -1,57 +1,64 @@
 -- A session by its turns: what its loop keeps, and what follows where it stops. Assumes nothing.
 use Prim.Native.Nat.{ℕ, suc, ◌+◌, ◌<◌}
-use mathlib.Core.Path.{◌≡◌, refl, ap, ◌∙◌}
-use mathlib.Core.Bool.{Bool, true, false}
-use mathlib.Core.Logic.{◌⊎◌, inl, inr, ⊎_elim}
+use mathlib.Core.Path.{◌≡◌, refl, subst, ap, ◌∙◌}
+use mathlib.Core.Bool.{Bool, false}
+use mathlib.Core.List.{List}
+use mathlib.Core.Logic.{⊎_elim}
+use native.Mathlib.Numerals.{add-one}
 use native.Mathlib.Omega.{arith}
+use Rattle.std.specs.Prelude.{Result, Ok, Err, IfOk, IsErr}
+use Rattle.std.proofs.lemmas.Result.{MatchResult-from_err}
 use Rattle.fields.proofs.Lists.{eq-or-not}
-use Rattle.transfer.specs.Writes.{Stays}
-use Rattle.transfer.specs.Session.{turns, most_turns, Why, Stopped}
+use Rattle.transfer.specs.Session.{Standing, turns, most_turns, Why, Reached, Answered}
+use Rattle.transfer.specs.declared.link.Saved.{Saved}
 
--- so many turns were done, so many are left, and the session was not over before any; none were done where a write had failed before it
-pub record Going {A : Type 0} (turn : A → A) (is_over : A → Bool) (start : A) (had : Bool) (a : A) (rest : ℕ) : Type 0 where
-  pub count : ℕ
-  pub sums : count + rest ≡ most_turns
-  pub reached : turns turn count start ≡ a
-  pub going : (k : ℕ) → k < count → is_over (turns turn k start) ≡ false
-  pub none_after_failure : had ≡ true → count ≡ 0
-
-module _ {A : Type 0} (turn : A → A) (is_over : A → Bool) (start : A) (had : Bool) where
-  pub starts : Going turn is_over start had start most_turns
+module _ {A : Type 0} (turn : A → A) (is_over : A → Bool) (start : A) where
+  pub starts : Reached turn is_over start 0 start
   unfolding turns
-  starts = record { count = 0; sums = refl; reached = refl; going = λ k h. absurd (omega arith); none_after_failure = λ h. refl }
+  starts = record { bounded = omega arith; reached = refl; going = λ k h. absurd (omega arith) }
 
-  -- one turn more, where it is not over and no write has failed
-  pub goes : (a b : A) (failed : Bool) (rest less : ℕ) → Going turn is_over start had a rest → Stays had failed → is_over a ≡ false
-      → failed ≡ false → turn a ≡ b → less + 1 ≡ rest → Going turn is_over start had b less
+  -- one turn more, where it is not over
+  pub goes : (a b : A) (count : ℕ) → Reached turn is_over start count a → count < most_turns → is_over a ≡ false → turn a ≡ b
+      → Reached turn is_over start (count + 1) b
   unfolding turns
-  goes a b failed rest less g s o f t l =
-      record {
-        count = suc g.count;
-        sums = omega (arith, g.sums);
+  goes a b count g m o t =
+      rw add-one (record {
+        bounded = omega arith;
         reached = ap turn g.reached ∙ t;
-        going = λ (k : ℕ) (h : k < suc g.count).
+        going = λ (k : ℕ) (h : k < suc count).
             ⊎_elim
-            (λ (e : k ≡ g.count). rw e (ap is_over g.reached ∙ o))
-            (λ (n : k ≡ g.count → ⊥). g.going k (omega (arith, n)))
-            (eq-or-not k g.count);
-        none_after_failure = λ (h : had ≡ true). let p : failed ≡ true = s h in absurd (let z : ◌≡◌ {A = ℕ} 0 1 = cc in omega arith);
-      }
+            (λ (e : k ≡ count). rw e (ap is_over g.reached ∙ o))
+            (λ (n : k ≡ count → ⊥). g.going k (omega (arith, n)))
+            (eq-or-not k count);
+      })
 
-  -- where the loop is left: it is over, or no turn is left, or a write had failed
-  pub stops : (a : A) (rest : ℕ) (failed : Bool) → Going turn is_over start had a rest
-      → (is_over a ≡ true) ⊎ ((rest ≡ 0) ⊎ (failed ≡ true)) → Stopped turn is_over start had failed a
-  stops a rest failed g w =
+module _ {E F : Type 0} (turn : Standing E → Standing E) (is_over : Standing E → Bool) (saved_at : Standing E → Saved) where
+  -- where a write failed
+  pub breaks : (start begun : E) (area : List ℕ) (last : Standing E) (count : ℕ) (result : Result Saved F) (kept : List ℕ) → IsErr result
+      → begun ≡ start → Reached turn is_over (record { ends = begun; area = area }) count last → kept ≡ last.area
+      → Answered turn is_over saved_at (record { ends = start; area = area }) result kept
+  breaks start begun area last count result kept f b g k =
+      MatchResult-from_err result _ _ f (λ why. record {
+        count = count;
+        last = last;
+        after = subst (λ (x : E). Reached turn is_over (record { ends = x; area = area }) count last) b g;
+        keeps = k;
+      })
+
+  -- where the loop is left, and both ends are stopped
+  pub ends : (start begun : E) (area : List ℕ) (last : Standing E) (count : ℕ) (result : Result Saved F) (kept : List ℕ)
+      → begun ≡ start → Reached turn is_over (record { ends = begun; area = area }) count last → kept ≡ last.area
+      → Why (is_over last) count → IfOk result (λ s. s ≡ saved_at last)
+      → Answered turn is_over saved_at (record { ends = start; area = area }) result kept
+  ends start begun area last count (Ok s) kept b g k w l =
       record {
-        count = g.count;
-        bounded = omega (arith, g.sums);
-        reached = g.reached;
-        going = g.going;
-        none_after_failure = g.none_after_failure;
-        why = why w;
+        last = last;
+        stopped = record {
+          count = count;
+          after = subst (λ (x : E). Reached turn is_over (record { ends = x; area = area }) count last) b g;
+          why = w;
+        };
+        saves = l;
+        keeps = k;
       }
-    where
-      why : (is_over a ≡ true) ⊎ ((rest ≡ 0) ⊎ (failed ≡ true)) → Why (is_over a) g.count failed
-      why (inl o) = inl o
-      why (inr (inl z)) = inr (inl (omega (arith, g.sums)))
-      why (inr (inr f)) = inr (inr f)
+  ends start begun area last count (Err why) kept b g k w l = breaks start begun area last count (Err why) kept refl b g k

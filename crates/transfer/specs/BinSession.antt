@@ -1,19 +1,18 @@
 -- A session of #BIN# over the program's link: one turn, the beginning, and what is left at the end. The reply buffers are 259 zeros each time.
-use Rattle.std.specs.Prelude.{ℕ, ◌≡◌, Bool, true, List, length, take, replicate, eqb}
+use Rattle.std.specs.Prelude.{ℕ, ◌&&◌, ◌||◌, Bool, true, false, List, length, take, replicate, eqb, Result}
 use Rattle.fields.specs.Pick.{pick}
-use Rattle.calls.specs.declared.Outcome.TheVariants.{Success}
 use Rattle.calls.specs.Recording.{record_answer, record_left}
-use Rattle.bin.specs.declared.ReceiverState.TheVariants.{Ended}
+use Rattle.bin.specs.declared.ReceiverState.{ReceiverState}
+use Rattle.bin.specs.declared.ReceiverState.TheVariants.{Waiting, Basic, Extended, Ended}
+use Rattle.bin.specs.Steps.{sender_ended, receiver_ended}
 use Rattle.bin_sender.specs.declared.Sender.{Sender}
 use Rattle.crc.specs.declared.Reading.TheVariants.{Bare}
 use Rattle.bin_sender.specs.Sender.{SenderAfter, begin as begin_sender, transmit, receive as sender_receives}
 use Rattle.bin_receiver.specs.declared.Receiver.{Receiver}
 use Rattle.bin_receiver.specs.Receiver.{ReceiverAfter, fresh, resume, receive as receiver_receives, timeout, record_by}
-use Rattle.transfer.specs.Numbers.{bin_sender_number, bin_receiver_number}
 use Rattle.calls.specs.Count.{record_count}
-use Rattle.transfer.specs.Link.{file_stamp, whole, after, with_answer, is_over as is_over_by, passed}
-use Rattle.transfer.specs.Writes.{Stays}
-use Rattle.transfer.specs.Session.{Standing, Stopped}
+use Rattle.transfer.specs.Link.{file_stamp, whole, after, with_answer, is_success as outcome_is_success, passed}
+use Rattle.transfer.specs.Session.{Standing, Answered}
 use Rattle.transfer.specs.declared.link.Link.{Link}
 use Rattle.transfer.specs.declared.link.Saved.{Saved}
 use Rattle.transfer.specs.declared.bin_link.Ends.{Ends}
@@ -66,29 +65,35 @@ begin before name left size room = record {
 
 -- the link is broken, or both ends have ended
 unfoldable pub is_over : Ends → Bool
-is_over e = is_over_by e.link (bin_sender_number e.sender.core.state) (bin_receiver_number e.receiver.core.state)
+is_over e = e.link.broken || (receiver_ended e.receiver.core.state && sender_ended e.sender.core.state)
 
 abbrev pub is_over_at : Standing Ends → Bool
 is_over_at st = is_over st.ends
+
+-- the receiver has ended with success
+abbrev pub is_success : ReceiverState → Bool
+is_success Waiting = false
+is_success (Basic size kept) = false
+is_success (Extended crc) = false
+is_success (Ended o) = outcome_is_success o
 
 -- a receiver's record, and whether it ended with success
 abbrev pub saved_of : Receiver → Saved
 saved_of m = record {
   bytes = record_left (record_by m) (replicate 81 0);
   count = record_count (record_answer (record_by m) (replicate 81 0));
-  whole = eqb (bin_receiver_number m.core.state) (bin_receiver_number (Ended Success));
+  whole = is_success m.core.state;
 }
 
 -- the timer of a receiver whose link is broken runs out
 unfoldable pub saved_after : Receiver → List ℕ → Saved
 saved_after m area = saved_of (timeout m area (replicate 259 0)).answer.receiver
 
--- a session from what the one before left: what it saves and the area are those of where it stopped, and the flag of a failed write stays up
-pub record Session (before : Saved) (name : List ℕ) (bytes : ℕ) (file area : List ℕ) (had failed : Bool) (saved : Saved)
-    (kept : List ℕ) : Type 0 where
-  pub last : Standing Ends
-  pub stopped : Stopped (turn file) is_over_at
-      (record { ends = begin before name bytes (length file) (length area); area = area }) had failed last
-  pub saves : saved ≡ saved_after last.ends.receiver last.area
-  pub keeps : kept ≡ last.area
-  pub stays : Stays had failed
+abbrev pub saved_at : Standing Ends → Saved
+saved_at st = saved_after st.ends.receiver st.area
+
+-- a session from what the one before left
+abbrev pub Session : {F : Type 0} → Saved → List ℕ → ℕ → List ℕ → List ℕ → Result Saved F → List ℕ → Type 0
+Session before name bytes file area result kept =
+    Answered (turn file) is_over_at saved_at
+    (record { ends = begin before name bytes (length file) (length area); area = area }) result kept

@@ -1,7 +1,8 @@
--- What the link lets pass, and when a session is over.
+-- What the link lets pass.
 use Rattle.std.specs.Prelude.{ℕ, ◌-◌, Bool, true, false, List, [], length, replicate, take, leb}
 use Rattle.fields.specs.Pick.{pick}
-use Rattle.transfer.specs.Numbers.{is_end}
+use Rattle.calls.specs.declared.Outcome.{Outcome}
+use Rattle.calls.specs.declared.Outcome.TheVariants.{Success, RecordUnreadable, RecordOver, NameOutside, LengthOutside, BlockOutside, Unexpected, Malformed, NoRoom, HaveFile, Differs, CheckFailed, PastSize, Short, Refused, Cancelled, NotOurs, TimedOut, SecondFile, Stopped}
 use Rattle.transfer.specs.declared.link.Link.{Link}
 use Rattle.transfer.specs.declared.link.Saved.{Saved}
 
@@ -31,9 +32,28 @@ after l n = record {
 abbrev pub with_answer : Link → ℕ → List ℕ → Link
 with_answer l n back = record { left = l.left; broken = l.broken; framed = l.framed; answered = n; back = back }
 
--- the link is broken, or both ends have ended
-abbrev pub is_over : Link → ℕ → ℕ → Bool
-is_over l sender receiver = pick l.broken true (pick (is_end receiver) (is_end sender) false)
+-- whether an end that has ended so has succeeded
+unfoldable pub is_success : Outcome → Bool
+is_success Success = true
+is_success RecordUnreadable = false
+is_success RecordOver = false
+is_success NameOutside = false
+is_success LengthOutside = false
+is_success BlockOutside = false
+is_success Unexpected = false
+is_success (Malformed f) = false
+is_success NoRoom = false
+is_success HaveFile = false
+is_success Differs = false
+is_success CheckFailed = false
+is_success PastSize = false
+is_success Short = false
+is_success Refused = false
+is_success Cancelled = false
+is_success NotOurs = false
+is_success TimedOut = false
+is_success SecondFile = false
+is_success Stopped = false
 
 -- all of a frame, or none
 abbrev pub of_frame : Link → List ℕ → List ℕ

@@ -1,7 +1,7 @@
--- A session is a number of turns of the program's link. How many they are depends on whether a write fails, which no contract can say: the
--- number is left open, and what is promised is why the session stopped at it. Where the flag of a failed write is down on return, that settles
--- the number: it is the first turn at which the session is over, or the most. That only a failed write puts the flag up is tested.
-use Rattle.std.specs.Prelude.{ℕ, zero, suc, ◌≤◌, ◌<◌, ◌≡◌, Bool, true, false, ◌⊎◌, List}
+-- A session is a number of turns of the program's link. Where every write of its transcript succeeds, that number is settled: it is the first
+-- at which the session is over, or the most. Where one fails, the session ends there, behind a number of turns that is left open.
+use Rattle.std.specs.Prelude.{ℕ, zero, suc, ◌≤◌, ◌<◌, ◌≡◌, Bool, true, false, ◌⊎◌, List, Result, MatchResult}
+use Rattle.transfer.specs.declared.link.Saved.{Saved}
 
 -- what stands between two turns: both ends and the link, and every byte of the area
 pub record Standing (E : Type 0) : Type 0 where
@@ -17,15 +17,38 @@ turns turn (suc n) start = turn (turns turn n start)
 abbrev pub most_turns : ℕ
 most_turns = 200_000_000
 
--- why a session has stopped: it is over, or it had all its turns, or the flag of a failed write is up on return
-abbrev pub Why : Bool → ℕ → Bool → Type 0
-Why over count failed = (over ≡ true) ⊎ ((count ≡ most_turns) ⊎ (failed ≡ true))
+-- why a session has stopped: it is over, or it had all its turns
+abbrev pub Why : Bool → ℕ → Type 0
+Why over count = (over ≡ true) ⊎ (count ≡ most_turns)
 
--- the session from start has stopped where `last` says, and was not over before any turn; with the flag up before it, it had no turn
-pub record Stopped {A : Type 0} (turn : A → A) (is_over : A → Bool) (start : A) (had failed : Bool) (last : A) : Type 0 where
-  pub count : ℕ
+-- the session from start stands at `last` after so many turns, and was not over before any of them
+pub record Reached {A : Type 0} (turn : A → A) (is_over : A → Bool) (start : A) (count : ℕ) (last : A) : Type 0 where
   pub bounded : count ≤ most_turns
   pub reached : turns turn count start ≡ last
   pub going : (k : ℕ) → k < count → is_over (turns turn k start) ≡ false
-  pub none_after_failure : had ≡ true → count ≡ 0
-  pub why : Why (is_over last) count failed
+
+-- the session from start has stopped where `last` says
+pub record Stopped {A : Type 0} (turn : A → A) (is_over : A → Bool) (start : A) (last : A) : Type 0 where
+  pub count : ℕ
+  pub after : Reached turn is_over start count last
+  pub why : Why (is_over last) count
+
+-- every write succeeded: what is saved and the area are those of where the session stopped
+pub record Ended {E : Type 0} (turn : Standing E → Standing E) (is_over : Standing E → Bool) (saved_at : Standing E → Saved) (start : Standing E)
+    (saved : Saved) (kept : List ℕ) : Type 0 where
+  pub last : Standing E
+  pub stopped : Stopped turn is_over start last
+  pub saves : saved ≡ saved_at last
+  pub keeps : kept ≡ last.area
+
+-- a write failed: the area is what stands after some number of turns
+pub record CutOff {E : Type 0} (turn : Standing E → Standing E) (is_over : Standing E → Bool) (start : Standing E) (kept : List ℕ) : Type 0 where
+  pub count : ℕ
+  pub last : Standing E
+  pub after : Reached turn is_over start count last
+  pub keeps : kept ≡ last.area
+
+-- what a session promises of its answer and of what it leaves in the area
+abbrev pub Answered : {E F : Type 0} → (Standing E → Standing E) → (Standing E → Bool) → (Standing E → Saved) → Standing E → Result Saved F → List ℕ → Type 0
+Answered turn is_over saved_at start result kept =
+    MatchResult result (λ saved. Ended turn is_over saved_at start saved kept) (λ e. CutOff turn is_over start kept)

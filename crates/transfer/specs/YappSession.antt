@@ -1,20 +1,17 @@
 -- A session of YAPP over the program's link: one turn, the beginning, and what is left at the end. The reply buffers are 259 zeros each time.
-use Rattle.std.specs.Prelude.{ℕ, ◌≡◌, Bool, true, false, List, length, take, replicate, eqb}
+use Rattle.std.specs.Prelude.{ℕ, ◌&&◌, ◌||◌, Bool, true, false, List, length, take, replicate, eqb, None, Option, Result, Some}
 use Rattle.fields.specs.Pick.{pick}
-use Rattle.fields.specs.declared.Stamp.{Stamp}
-use Rattle.fields.specs.declared.Stamp.TheVariants.{Absent, Present}
-use Rattle.calls.specs.declared.Outcome.TheVariants.{Success}
 use Rattle.calls.specs.Recording.{record_answer, record_left}
-use Rattle.yapp.specs.declared.ReceiverState.TheVariants.{Ended}
+use Rattle.yapp.specs.declared.ReceiverState.{ReceiverState}
+use Rattle.yapp.specs.declared.ReceiverState.TheVariants.{R, RH, RD, CW, Ended}
+use Rattle.yapp.specs.Steps.{sender_ended, receiver_ended}
 use Rattle.yapp_sender.specs.declared.Sender.{Sender}
 use Rattle.yapp_sender.specs.Sender.{SenderAfter, begin as begin_sender, transmit, receive as sender_receives}
 use Rattle.yapp_receiver.specs.declared.Receiver.{Receiver}
 use Rattle.yapp_receiver.specs.Receiver.{ReceiverAfter, fresh, resume, receive as receiver_receives, timeout, record_by}
-use Rattle.transfer.specs.Numbers.{sender_number, receiver_number}
 use Rattle.calls.specs.Count.{record_count}
-use Rattle.transfer.specs.Link.{file_stamp, whole, after, with_answer, is_over as is_over_by, passed}
-use Rattle.transfer.specs.Writes.{Stays}
-use Rattle.transfer.specs.Session.{Standing, Stopped}
+use Rattle.transfer.specs.Link.{file_stamp, whole, after, with_answer, is_success as outcome_is_success, passed}
+use Rattle.transfer.specs.Session.{Standing, Answered}
 use Rattle.transfer.specs.declared.link.Link.{Link}
 use Rattle.transfer.specs.declared.link.Saved.{Saved}
 use Rattle.transfer.specs.declared.yapp_link.Ends.{Ends}
@@ -56,8 +53,8 @@ receiver_of before room checks =
     pick (eqb before.count 0) (fresh room true checks) (resume (take before.count before.bytes) room true checks)
 
 -- only YappC has a date and time
-abbrev pub stamp_of : Bool → Stamp
-stamp_of checks = pick checks (Present file_stamp) Absent
+abbrev pub stamp_of : Bool → Option ℕ
+stamp_of checks = pick checks (Some file_stamp) None
 
 -- blocks of 256 bytes, and both ends resume; the link carries any number of a packet's bytes
 unfoldable pub begin : Saved → Bool → List ℕ → ℕ → ℕ → ℕ → Ends
@@ -71,17 +68,25 @@ begin before checks name left size room = record {
 
 -- the link is broken, or both ends have ended
 unfoldable pub is_over : Ends → Bool
-is_over e = is_over_by e.link (sender_number e.sender.core.state) (receiver_number e.receiver.core.state)
+is_over e = e.link.broken || (receiver_ended e.receiver.core.state && sender_ended e.sender.core.state)
 
 abbrev pub is_over_at : Standing Ends → Bool
 is_over_at st = is_over st.ends
+
+-- the receiver has ended with success
+abbrev pub is_success : ReceiverState → Bool
+is_success R = false
+is_success (RH whole) = false
+is_success RD = false
+is_success (CW o) = false
+is_success (Ended o) = outcome_is_success o
 
 -- a receiver's record, and whether it ended with success
 abbrev pub saved_of : Receiver → Saved
 saved_of m = record {
   bytes = record_left (record_by m) (replicate 81 0);
   count = record_count (record_answer (record_by m) (replicate 81 0));
-  whole = eqb (receiver_number m.core.state) (receiver_number (Ended Success));
+  whole = is_success m.core.state;
 }
 
 -- the timer of a receiver whose link is broken ..
@@ -92,12 +97,11 @@ timed_out m area = (timeout m area (replicate 259 0)).answer.receiver
 unfoldable pub saved_after : Receiver → List ℕ → Saved
 saved_after m area = saved_of (timed_out (timed_out m area) area)
 
--- a session from what the one before left: what it saves and the area are those of where it stopped, and the flag of a failed write stays up
-pub record Session (before : Saved) (checks : Bool) (name : List ℕ) (bytes : ℕ) (file area : List ℕ) (had failed : Bool) (saved : Saved)
-    (kept : List ℕ) : Type 0 where
-  pub last : Standing Ends
-  pub stopped : Stopped (turn file) is_over_at
-      (record { ends = begin before checks name bytes (length file) (length area); area = area }) had failed last
-  pub saves : saved ≡ saved_after last.ends.receiver last.area
-  pub keeps : kept ≡ last.area
-  pub stays : Stays had failed
+abbrev pub saved_at : Standing Ends → Saved
+saved_at st = saved_after st.ends.receiver st.area
+
+-- a session from what the one before left
+abbrev pub Session : {F : Type 0} → Saved → Bool → List ℕ → ℕ → List ℕ → List ℕ → Result Saved F → List ℕ → Type 0
+Session before checks name bytes file area result kept =
+    Answered (turn file) is_over_at saved_at
+    (record { ends = begin before checks name bytes (length file) (length area); area = area }) result kept

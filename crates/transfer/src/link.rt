@@ -1,9 +1,12 @@
 // The link between two ends: it carries so many bytes, and then it breaks.
 ghost use Rattle.std.specs.Prelude.{◌≡◌, take};
-ghost use Rattle.transfer.specs.Writes.{Stays};
-ghost use Rattle.transfer.specs.Link.{nothing as nothing_of, whole as whole_of, after as after_of, with_answer, is_over, of_frame, passed as passed_of};
+ghost use Rattle.transfer.specs.Link.{nothing as nothing_of, whole as whole_of, after as after_of, with_answer, is_success, of_frame, passed as passed_of};
 
 use crate::text;
+use crate::text::End;
+use calls::Outcome;
+use std::io;
+use std::io::Write;
 
 #[derive(Clone, Copy)]
 pub struct Link {
@@ -15,6 +18,9 @@ pub struct Link {
     pub answered: usize,
     pub back: [u8; 259],
 }
+
+// How many turns a session has at the most.
+pub const MOST_TURNS: u32 = 200_000_000;
 
 // The date and time of last change that the header and the line carry.
 pub const STAMP: u32 = 0x5B6E_A3C0;
@@ -55,22 +61,16 @@ pub fn whole(left: usize, framed: bool) -> Link
 pub fn after(link: Link, n: usize) -> Link
     ensures { result ≡ after_of link n }
 {
-    let back = link.back;
     if n <= link.left {
         return Link {
             left: link.left - n,
-            broken: link.broken,
-            framed: link.framed,
-            answered: link.answered,
-            back,
+            ..link
         };
     }
     Link {
         left: 0,
         broken: true,
-        framed: link.framed,
-        answered: link.answered,
-        back,
+        ..link
     }
 }
 
@@ -79,11 +79,9 @@ pub fn with_answer(link: Link, answered: usize, back: [u8; 259]) -> Link
     ensures { result ≡ with_answer link answered back }
 {
     Link {
-        left: link.left,
-        broken: link.broken,
-        framed: link.framed,
         answered,
         back,
+        ..link
     }
 }
 
@@ -92,19 +90,6 @@ pub fn answer_of(link: Link, back: &[u8; 259]) -> &[u8]
     ensures { result.now ≡ take link.answered back.now }
 {
     fields::part(back, 0, link.answered)
-}
-
-// Whether a session is over: the link is broken, or both ends have ended.
-pub fn is_over(link: Link, sender: usize, receiver: usize) -> bool
-    ensures { result ≡ is_over link sender receiver }
-{
-    if link.broken {
-        return true;
-    }
-    if text::is_end(receiver) {
-        return text::is_end(sender);
-    }
-    false
 }
 
 // What passes of a frame: all of it, or none.
@@ -127,59 +112,21 @@ pub fn passed(link: Link, bytes: &[u8]) -> &[u8]
     fields::part(bytes, 0, link.left)
 }
 
-// A packet or a frame on its way, by the number of its word, and how much of it passes.
-pub fn show(
-    rt: &HostRuntime,
+// Whether an end that has ended so has succeeded.
+#[tactic(auto, unfolding(crate::specs::Link::is_success))]
+pub fn is_success(outcome: Outcome) -> bool
+    ensures { result ≡ is_success outcome }
+{
+    matches!(outcome, Outcome::Success)
+}
+
+// What an end sends over the link, and how much of it passes.
+pub fn show_sent<W: Write>(
+    out: &mut W,
     link: Link,
-    from: usize,
-    number: usize,
+    from: End,
+    word: &str,
     bytes: &[u8],
-    failed: &mut bool,
-)
-    ensures { Stays failed.old failed.new }
-{
-    let some = passed(link, bytes);
-    text::passing(rt, from, number, bytes.len(), some.len(), failed);
-}
-
-// The same of a packet, by its type.
-pub fn show_packet(
-    rt: &HostRuntime,
-    link: Link,
-    from: usize,
-    packet: &[u8],
-    checks: bool,
-    failed: &mut bool,
-)
-    ensures { Stays failed.old failed.new }
-{
-    show(
-        rt,
-        link,
-        from,
-        text::packet_number(packet, checks),
-        packet,
-        failed,
-    );
-}
-
-// The same of a frame, by what it is.
-pub fn show_frame(
-    rt: &HostRuntime,
-    link: Link,
-    from: usize,
-    frame: &[u8],
-    is_data: bool,
-    failed: &mut bool,
-)
-    ensures { Stays failed.old failed.new }
-{
-    show(
-        rt,
-        link,
-        from,
-        text::frame_number(frame, is_data),
-        frame,
-        failed,
-    );
+) -> io::Result<()> {
+    text::show_sent(out, from, word, bytes.len(), passed(link, bytes).len())
 }

@@ -9,16 +9,14 @@ ghost use Rattle.std.specs.Prelude.{◌≡◌, length};
 use fields::names;
 use link::Saved;
 use numbers::digit_reader;
-use printing::{fail, put, put_number, put_word, say};
-use records::{RecordRead, record_reader};
+use records::record_reader;
 use std::fs::File;
-use std::io::Read;
+use std::io::{Read, Write};
 use std::process::ExitCode;
 use std::{env, io};
 
 mod bin_link;
 mod link;
-mod printing;
 mod text;
 mod yapp_link;
 
@@ -28,28 +26,25 @@ const LARGEST: usize = 1_048_576;
 // How often the link breaks at the most, in each transfer.
 const BREAKS: u32 = 3;
 
-// By which protocol a session goes: the places of their names.
-const YAPP: usize = 0;
-
-const YAPPC: usize = 1;
-
-const BIN: usize = 2;
-
-// How many bytes of the buffer a file filled.
+// By which protocol a session goes.
 #[derive(Clone, Copy)]
-enum FileRead {
-    Bytes(usize),
-    // What failed is said already.
-    Failed,
+enum Protocol {
+    Yapp,
+    YappC,
+    Bin,
 }
 
-// One byte more than the largest file, so that a larger one shows.
-fn file_space() -> [u8; 1048577]
-    ensures { 1048577 ≡ length result }
-{
-    [0; 1048577]
+impl Protocol {
+    fn name(self) -> &'static str {
+        match self {
+            Protocol::Yapp => "YAPP",
+            Protocol::YappC => "YappC",
+            Protocol::Bin => "#BIN#",
+        }
+    }
 }
 
+// In a function of its own, or the proof of its length counts a million zeros.
 fn area_space() -> [u8; 1048576]
     ensures { 1048576 ≡ length result }
 {
@@ -72,60 +67,45 @@ fn pick(seed: u64, most: usize) -> usize {
     if n < most { n + 1 } else { 1 }
 }
 
-fn pick_way(own: usize, seed: u64) -> usize {
+fn pick_protocol(own: Protocol, seed: u64) -> Protocol {
     if seed / 65_536 % 2 == 0 {
-        return BIN;
+        return Protocol::Bin;
     }
-    if own == BIN {
-        return YAPPC;
+    match own {
+        Protocol::Yapp => Protocol::Yapp,
+        Protocol::YappC | Protocol::Bin => Protocol::YappC,
     }
-    own
-}
-
-fn print_way(rt: &HostRuntime, way: usize, failed: &mut bool) {
-    put_word(rt, b"YAPP|YappC|#BIN#|", way, failed);
 }
 
 // ---- Sessions
 
-fn print_good(rt: &HostRuntime, len: usize, kept: u32, size: u32, failed: &mut bool) {
-    let words: &[u8] = b"  record of | bytes: kept | of |\n|";
-    put_number(rt, words, 0, len, failed);
-    put_number(rt, words, 1, kept as usize, failed);
-    put_number(rt, words, 2, size as usize, failed);
-    put_word(rt, words, 3, failed);
-}
-
-fn print_read(rt: &HostRuntime, len: usize, read: RecordRead, failed: &mut bool) {
-    match read {
-        RecordRead::Good(r) => print_good(rt, len, r.kept, r.size, failed),
-        RecordRead::Unreadable => put(rt, b"  record unreadable\n", failed),
-    }
-}
-
-fn print_record(rt: &HostRuntime, saved: Saved, failed: &mut bool) {
+fn print_record<W: Write>(out: &mut W, saved: Saved) -> io::Result<()> {
     let bytes = saved.bytes;
-    if saved.count == 0 {
-        return put(rt, b"  no record\n", failed);
+    let count = saved.count;
+    if count == 0 {
+        return writeln!(out, "  no record");
     }
-    print_read(
-        rt,
-        saved.count,
-        record_reader::record_of(fields::part(&bytes, 0, saved.count)),
-        failed,
-    );
+    match record_reader::record_of(fields::part(&bytes, 0, count)) {
+        Some(r) => {
+            let kept = r.kept;
+            let size = r.size;
+            writeln!(out, "  record of {count} bytes: kept {kept} of {size}")
+        }
+        None => writeln!(out, "  record unreadable"),
+    }
 }
 
-fn print_session(rt: &HostRuntime, number: u32, way: usize, left: usize, failed: &mut bool) {
-    let words: &[u8] = b"\nsession | by |, the link breaks after | bytes|\n|";
-    put_number(rt, words, 0, number as usize, failed);
-    put_word(rt, words, 1, failed);
-    print_way(rt, way, failed);
+fn print_session<W: Write>(
+    out: &mut W,
+    number: u32,
+    protocol: Protocol,
+    left: usize,
+) -> io::Result<()> {
+    write!(out, "\nsession {number} by {}", protocol.name())?;
     if number <= BREAKS {
-        put_number(rt, words, 2, left, failed);
-        put_word(rt, words, 3, failed);
+        write!(out, ", the link breaks after {left} bytes")?;
     }
-    put_word(rt, words, 4, failed);
+    writeln!(out)
 }
 
 // How many bytes the link carries in a session: as the seed picks, or any number once it has broken often enough.
@@ -136,117 +116,131 @@ fn left_of(number: u32, seed: u64, size: usize) -> usize {
     usize::MAX
 }
 
-fn way_of(number: u32, own: usize, seed: u64) -> usize {
+fn protocol_of(number: u32, own: Protocol, seed: u64) -> Protocol {
     if number == 1 {
         return own;
     }
-    pick_way(own, seed)
+    pick_protocol(own, seed)
 }
 
 // The session with this number: two numbers of the seed's sequence pick its protocol and where the link breaks.
-fn session(
-    rt: &HostRuntime,
+fn session<W: Write>(
+    out: &mut W,
     number: u32,
-    own: usize,
+    own: Protocol,
     seed: u64,
     before: Saved,
     name: &[u8],
     file: &[u8],
     area: &mut [u8],
-    failed: &mut bool,
-) -> Saved {
-    let way = way_of(number, own, seed);
+) -> io::Result<Saved> {
+    let protocol = protocol_of(number, own, seed);
     let left = left_of(number, next(seed), file.len());
-    print_session(rt, number, way, left, failed);
-    if way == BIN {
-        return bin_link::session(rt, before, name, left, file, area, failed);
+    print_session(out, number, protocol, left)?;
+    match protocol {
+        Protocol::Yapp => yapp_link::session(out, before, false, name, left, file, area),
+        Protocol::YappC => yapp_link::session(out, before, true, name, left, file, area),
+        Protocol::Bin => bin_link::session(out, before, name, left, file, area),
     }
-    yapp_link::session(rt, before, way == YAPPC, name, left, file, area, failed)
 }
 
-// Sessions until the file is whole, or a write failed.
-fn sessions(
-    rt: &HostRuntime,
-    own: usize,
+// Sessions until the file is whole.
+fn sessions<W: Write>(
+    out: &mut W,
+    own: Protocol,
     seed: u64,
     name: &[u8],
     file: &[u8],
     area: &mut [u8],
-    failed: &mut bool,
-) {
+) -> io::Result<()> {
     let mut saved = link::nothing();
     let mut state = next(seed);
-    let mut number = 1;
-    while number <= BREAKS + 1 {
-        saved = session(rt, number, own, state, saved, name, file, area, failed);
+    for number in 1..=BREAKS + 1 {
+        saved = session(out, number, own, state, saved, name, file, area)?;
         state = next(next(state));
-        print_record(rt, saved, failed);
+        print_record(out, saved)?;
         if saved.whole {
-            return;
+            break;
         }
-        if *failed {
-            return;
+    }
+    Ok(())
+}
+
+fn print_title<W: Write>(out: &mut W, own: Protocol, name: &[u8], size: usize) -> io::Result<()> {
+    out.write_all(b"\n")?;
+    out.write_all(name)?;
+    writeln!(out, ", {size} bytes, by {}", own.name())
+}
+
+fn print_compared<W: Write>(out: &mut W, area: &[u8], file: &[u8]) -> io::Result<()> {
+    if fields::part(area, 0, file.len()) == file {
+        writeln!(out, "the area equals the file")
+    } else {
+        writeln!(out, "THE AREA DIFFERS FROM THE FILE")
+    }
+}
+
+fn transfer<W: Write>(
+    out: &mut W,
+    own: Protocol,
+    seed: u64,
+    name: &[u8],
+    file: &[u8],
+) -> io::Result<()> {
+    let mut area = area_space();
+    print_title(out, own, name, file.len())?;
+    sessions(out, own, seed, name, file, &mut area)?;
+    print_compared(out, &area, file)
+}
+
+fn all_ways<W: Write>(out: &mut W, name: &[u8], seed: u64, file: &[u8]) -> io::Result<()> {
+    for own in [Protocol::Yapp, Protocol::YappC, Protocol::Bin] {
+        transfer(out, own, seed, name, file)?;
+    }
+    Ok(())
+}
+
+// ---- What is said on standard error
+
+// An error's words, without the number that std puts behind them.
+fn words_of(text: &str) -> &str {
+    match text.split_once(" (os error ") {
+        Some((words, _)) => words,
+        None => text,
+    }
+}
+
+// Says what failed, and why. Where there is no memory for the words, std's own stand there.
+fn fail(rt: &HostRuntime, what: &str, why: io::Error) -> ExitCode {
+    let _ = match why.to_string(rt.alloc()) {
+        Ok(text) => {
+            let words = words_of(text.as_str());
+            eprintln!(rt; "transfer: {what}: {words}")
         }
-        number += 1;
-    }
+        Err(_) => eprintln!(rt; "transfer: {what}: {why}"),
+    };
+    ExitCode::FAILURE
 }
 
-fn print_title(rt: &HostRuntime, own: usize, name: &[u8], size: usize, failed: &mut bool) {
-    let words: &[u8] = b"\n|, | bytes, by |";
-    put_word(rt, words, 0, failed);
-    put(rt, name, failed);
-    put_number(rt, words, 1, size, failed);
-    put_word(rt, words, 2, failed);
-    print_way(rt, own, failed);
-    put_word(rt, words, 0, failed);
+// Says why the program does not do what it was asked for. That is no failure.
+fn refuse(rt: &HostRuntime, word: &str, what: &str) -> ExitCode {
+    let _ = eprintln!(rt; "transfer: {word}{what}");
+    ExitCode::SUCCESS
 }
 
-fn print_compared(rt: &HostRuntime, area: &[u8], file: &[u8], failed: &mut bool) {
-    if names::same(fields::part(area, 0, file.len()), file) {
-        return put(rt, b"the area equals the file\n", failed);
-    }
-    put(rt, b"THE AREA DIFFERS FROM THE FILE\n", failed);
-}
-
-fn transfer(rt: &HostRuntime, own: usize, seed: u64, name: &[u8], file: &[u8], failed: &mut bool) {
-    let mut space = area_space();
-    let area: &mut [u8] = &mut space;
-    print_title(rt, own, name, file.len(), failed);
-    if *failed {
-        return;
-    }
-    sessions(rt, own, seed, name, file, area, failed);
-    print_compared(rt, area, file, failed);
+fn usage(rt: &HostRuntime) -> ExitCode {
+    let _ = eprintln!(rt; "usage: transfer [PATH [SEED]]");
+    ExitCode::SUCCESS
 }
 
 // ---- The arguments
 
 // The name of a file is what follows the last slash of its path.
-fn name_from(path: &[u8]) -> usize {
-    let mut from = 0;
-    let mut i = 0;
-    while i < path.len() {
-        if path[i] == b'/' {
-            from = i + 1;
-        }
-        i += 1;
-    }
-    from
-}
-
 fn name_of(path: &[u8]) -> &[u8] {
-    fields::part(path, name_from(path), path.len())
-}
-
-fn all_ways(rt: &HostRuntime, name: &[u8], seed: u64, file: &[u8]) -> ExitCode {
-    let mut failed = false;
-    transfer(rt, YAPP, seed, name, file, &mut failed);
-    transfer(rt, YAPPC, seed, name, file, &mut failed);
-    transfer(rt, BIN, seed, name, file, &mut failed);
-    if failed {
-        return ExitCode::FAILURE;
+    match path.iter().rposition(|c| *c == b'/') {
+        Some(slash) => &path[slash + 1..],
+        None => path,
     }
-    ExitCode::SUCCESS
 }
 
 fn try_all(rt: &HostRuntime, path: &str, seed: u64, file: &[u8]) -> ExitCode {
@@ -254,44 +248,29 @@ fn try_all(rt: &HostRuntime, path: &str, seed: u64, file: &[u8]) -> ExitCode {
     if LARGEST < file.len() {
         return refuse(rt, path, ": over 1048576 bytes");
     }
-    if names::is_name(name) {
-        return all_ways(rt, name, seed, file);
+    if !names::is_name(name) {
+        return refuse(rt, path, ": not a name that a header can carry");
     }
-    refuse(rt, path, ": not a name that a header can carry")
-}
-
-// Reads up to the end of the file or of the buffer. A read that fails is said, and is not the end of the file.
-fn read_file(rt: &HostRuntime, file: &mut File, path: &str, buf: &mut [u8]) -> FileRead {
-    let mut n = 0;
-    while n < buf.len() {
-        match file.read(&mut buf[n..]) {
-            Ok(0) => break,
-            Ok(more) => n += more,
-            Err(why) => {
-                fail(rt, path, why);
-                return FileRead::Failed;
-            }
-        }
-    }
-    FileRead::Bytes(n)
-}
-
-fn read_path(rt: &HostRuntime, path: &str, buf: &mut [u8]) -> FileRead {
-    match File::open(rt, path) {
-        Ok(mut file) => read_file(rt, &mut file, path, buf),
-        Err(why) => {
-            fail(rt, path, why);
-            FileRead::Failed
-        }
+    match all_ways(&mut rt.stdout(), name, seed, file) {
+        Ok(()) => ExitCode::SUCCESS,
+        Err(why) => fail(rt, "standard output", why),
     }
 }
 
+// Reads up to the end of the file, or one byte more than the largest file has, so that a larger one shows.
+fn read_path(rt: &HostRuntime, path: &str) -> io::Result<Vec<u8>> {
+    let mut file = Vec::new(rt.alloc());
+    File::open(rt, path)?
+        .take(1_048_577)
+        .read_to_end(&mut file)?;
+    Ok(file)
+}
+
+// A read that fails is said, and is not the end of the file.
 fn run(rt: &HostRuntime, path: &str, seed: u64) -> ExitCode {
-    let mut space = file_space();
-    let buf: &mut [u8] = &mut space;
-    match read_path(rt, path, buf) {
-        FileRead::Bytes(n) => try_all(rt, path, seed, fields::part(buf, 0, n)),
-        FileRead::Failed => ExitCode::FAILURE,
+    match read_path(rt, path) {
+        Ok(file) => try_all(rt, path, seed, &file),
+        Err(why) => fail(rt, path, why),
     }
 }
 
@@ -302,20 +281,9 @@ fn run_sample(rt: &HostRuntime, seed: u64) -> ExitCode {
 
 fn run_seeded(rt: &HostRuntime, path: &str, seed: &str) -> ExitCode {
     match digit_reader::read_size(seed.as_bytes()) {
-        numbers::Number::Value(n) => run(rt, path, n as u64),
-        numbers::Number::Malformed => refuse(rt, "", "a seed is a number of at most 8 digits"),
+        Some(n) => run(rt, path, n as u64),
+        None => refuse(rt, "", "a seed is a number of at most 8 digits"),
     }
-}
-
-fn usage(rt: &HostRuntime) -> ExitCode {
-    let _ = eprintln!(rt; "usage: transfer [PATH [SEED]]");
-    ExitCode::SUCCESS
-}
-
-// Says why the program does not do what it was asked for. That is no failure.
-fn refuse(rt: &HostRuntime, word: &str, what: &str) -> ExitCode {
-    say(rt, word, what);
-    ExitCode::SUCCESS
 }
 
 // The seed is 1 where none is given.

@@ -1,11 +1,14 @@
 // A YAPP sender and a YAPP receiver, and the link between them.
-ghost use Rattle.std.specs.Prelude.{◌≡◌};
-ghost use Rattle.transfer.specs.Writes.{Stays};
-ghost use Rattle.transfer.specs.YappSession.{sends, carried, turn as turn_of, receiver_of, stamp_of, begin as begin_of, is_over, saved_of, timed_out, saved_after, Session};
+ghost use Rattle.std.specs.Prelude.{◌≡◌, IfOk};
+ghost use Rattle.yapp.specs.Steps.{sender_ended, receiver_ended};
+ghost use Rattle.transfer.specs.YappSession.{sends, carried, turn as turn_of, receiver_of, stamp_of, begin as begin_of, is_over, is_success, saved_of, timed_out, saved_after, Session};
 
-use crate::link::{Link, Saved};
+use crate::link::{Link, MOST_TURNS, Saved};
+use crate::text::End;
 use crate::{link, text};
-use fields::Stamp;
+use std::io;
+use std::io::Write;
+use yapp::{ReceiverState, SenderState};
 use yapp_receiver::Receiver;
 use yapp_sender::{Sender, SenderAnswer};
 
@@ -14,6 +17,14 @@ struct Ends {
     sender: Sender,
     receiver: Receiver,
     link: Link,
+}
+
+// The ends behind a turn, and what the sender sent in it: the first bytes of to.
+#[derive(Clone, Copy)]
+struct Turned {
+    ends: Ends,
+    to: [u8; 259],
+    sent: usize,
 }
 
 fn receiver_of(before: Saved, room: usize, checks: bool) -> Receiver
@@ -26,6 +37,7 @@ fn receiver_of(before: Saved, room: usize, checks: bool) -> Receiver
     Receiver::resume(fields::part(&bytes, 0, before.count), room, true, checks)
 }
 
+#[tactic(auto, unfolding(crate::specs::YappSession::begin))]
 fn begin(before: Saved, checks: bool, name: &[u8], left: usize, size: usize, room: usize) -> Ends
     ensures { result ≡ begin_of before checks name.now left size room }
 {
@@ -36,13 +48,10 @@ fn begin(before: Saved, checks: bool, name: &[u8], left: usize, size: usize, roo
     }
 }
 
-fn stamp_of(checks: bool) -> Stamp
+fn stamp_of(checks: bool) -> Option<u32>
     ensures { result ≡ stamp_of checks }
 {
-    if checks {
-        return Stamp::Present(link::STAMP);
-    }
-    Stamp::Absent
+    checks.then_some(link::STAMP)
 }
 
 // The sender takes what came over the link of the receiver's answer; where there was none, it has its chance to send.
@@ -62,76 +71,105 @@ fn send(
 }
 
 // The ends behind the sender's answer: what it sent, if anything, goes over the link to the receiver.
-fn take(
-    rt: &HostRuntime,
-    receiver: Receiver,
-    a: SenderAnswer,
-    link: Link,
-    to: &[u8; 259],
-    area: &mut [u8],
-    failed: &mut bool,
-) -> Ends
-    ensures { (carried receiver (record { answer = a; reply = to.now }) link area.old ≡ record { ends = result; area = area.new }) × Stays failed.old failed.new }
+fn take(receiver: Receiver, a: SenderAnswer, link: Link, to: &[u8; 259], area: &mut [u8]) -> Ends
+    ensures { carried receiver (record { answer = a; reply = to.now }) link area.old ≡ record { ends = result; area = area.new } }
 {
-    let checked = receiver.checked();
     let mut back = [0; 259];
     let packet = fields::part(to, 0, a.sent);
-    link::show_packet(rt, link, text::SENDER, packet, checked, failed);
     let b = receiver.receive(link::passed(link, packet), area, &mut back);
-    let next = b.receiver;
-    text::receiver_moved(rt, receiver, next, failed);
-    let sender = a.sender;
     Ends {
-        sender,
-        receiver: next,
+        sender: a.sender,
+        receiver: b.receiver,
         link: link::with_answer(link::after(link, a.sent), b.sent, back),
     }
 }
 
-fn turn(rt: &HostRuntime, e: Ends, file: &[u8], area: &mut [u8], failed: &mut bool) -> Ends
-    ensures { (turn_of file.now (record { ends = e; area = area.old }) ≡ record { ends = result; area = area.new }) × Stays failed.old failed.new }
+fn turn(e: Ends, file: &[u8], area: &mut [u8]) -> Turned
+    ensures { turn_of file.now (record { ends = e; area = area.old }) ≡ record { ends = result.ends; area = area.new } }
 {
     let link = e.link;
     let back = link.back;
     let mut to = [0; 259];
-    let answer = link::answer_of(link, &back);
-    link::show_packet(rt, link, text::RECEIVER, answer, false, failed);
-    let came = link::passed(link, answer);
+    let came = link::passed(link, link::answer_of(link, &back));
     let a = send(e.sender, link.answered, came, file, &mut to);
-    text::sender_moved(rt, e.sender, a.sender, failed);
-    let sent = link::after(link, link.answered);
-    take(rt, e.receiver, a, sent, &to, area, failed)
+    let ends = take(e.receiver, a, link::after(link, link.answered), &to, area);
+    Turned {
+        ends,
+        to,
+        sent: a.sent,
+    }
 }
 
-fn is_over(e: Ends) -> bool
-    ensures { result ≡ is_over e }
-{
-    link::is_over(
-        e.link,
-        text::sender_number(e.sender.state()),
-        text::receiver_number(e.receiver.state()),
+fn show_packet<W: Write>(
+    out: &mut W,
+    link: Link,
+    from: End,
+    packet: &[u8],
+    checked: bool,
+) -> io::Result<()> {
+    link::show_sent(out, link, from, text::packet_word(packet, checked), packet)
+}
+
+// A turn of the ends e: the answer on its way, and what it makes of the sender; then what that sends, and what it makes of the receiver.
+fn show_turn<W: Write>(out: &mut W, e: Ends, t: Turned) -> io::Result<()> {
+    let Turned { ends, to, sent } = t;
+    let back = e.link.back;
+    let answer = link::answer_of(e.link, &back);
+    show_packet(out, e.link, End::Receiver, answer, false)?;
+    text::show_step(out, End::Sender, e.sender.state(), ends.sender.state())?;
+    let rest = link::after(e.link, e.link.answered);
+    let packet = fields::part(&to, 0, sent);
+    show_packet(out, rest, End::Sender, packet, e.receiver.checked())?;
+    text::show_step(
+        out,
+        End::Receiver,
+        e.receiver.state(),
+        ends.receiver.state(),
     )
 }
 
-// The operator stops a sender whose link is broken: it ends when nothing answers.
-fn end_sender(rt: &HostRuntime, sender: Sender, file: &[u8], failed: &mut bool)
-    ensures { Stays failed.old failed.new }
+fn sender_ended(state: SenderState) -> bool
+    ensures { result ≡ sender_ended state }
 {
-    let mut space = [0; 259];
-    let out: &mut [u8] = &mut space;
-    let a = sender.cancel(file, out);
-    let b = a.sender.timeout(file, out);
-    text::sender_moved(rt, sender, a.sender, failed);
-    text::sender_moved(rt, a.sender, b.sender, failed);
+    matches!(state, SenderState::Ended { .. })
 }
 
-fn time_out(rt: &HostRuntime, receiver: Receiver, area: &[u8], failed: &mut bool) -> Receiver
-    ensures { (result ≡ timed_out receiver area.now) × Stays failed.old failed.new }
+fn receiver_ended(state: ReceiverState) -> bool
+    ensures { result ≡ receiver_ended state }
 {
-    let mut out = [0; 259];
-    let a = receiver.timeout(area, &mut out);
-    text::receiver_moved(rt, receiver, a.receiver, failed);
-    a.receiver
+    matches!(state, ReceiverState::Ended { .. })
+}
+
+#[tactic(auto, unfolding(crate::specs::YappSession::is_over))]
+fn is_over(e: Ends) -> bool
+    ensures { result ≡ is_over e }
+{
+    e.link.broken || receiver_ended(e.receiver.state()) && sender_ended(e.sender.state())
+}
+
+// The operator stops a sender whose link is broken: it ends when nothing answers.
+fn end_sender<W: Write>(out: &mut W, sender: Sender, file: &[u8]) -> io::Result<()> {
+    let mut reply = [0; 259];
+    let a = sender.cancel(file, &mut reply).sender;
+    let b = a.timeout(file, &mut reply).sender;
+    text::show_step(out, End::Sender, sender.state(), a.state())?;
+    text::show_step(out, End::Sender, a.state(), b.state())
+}
+
+fn time_out(receiver: Receiver, area: &[u8]) -> Receiver
+    ensures { result ≡ timed_out receiver area.now }
+{
+    let mut reply = [0; 259];
+    receiver.timeout(area, &mut reply).receiver
+}
+
+fn is_success(state: ReceiverState) -> bool
+    ensures { result ≡ is_success state }
+{
+    match state {
+        ReceiverState::Ended { outcome } => link::is_success(outcome),
+        _ => false,
+    }
 }
 
 fn saved(receiver: Receiver) -> Saved
@@ -142,44 +180,42 @@ fn saved(receiver: Receiver) -> Saved
     Saved {
         bytes,
         count: calls::record_count(got),
-        whole: text::receiver_number(receiver.state()) == text::SUCCESS,
+        whole: is_success(receiver.state()),
     }
 }
 
 // The timer of a receiver whose link is broken: it aborts, and ends when nothing answers.
-fn end_receiver(rt: &HostRuntime, receiver: Receiver, area: &[u8], failed: &mut bool) -> Saved
-    ensures { (result ≡ saved_after receiver area.now) × Stays failed.old failed.new }
+fn end_receiver<W: Write>(out: &mut W, receiver: Receiver, area: &[u8]) -> io::Result<Saved>
+    ensures { IfOk result (λ s. s ≡ saved_after receiver area.now) }
 {
-    let aborting = time_out(rt, receiver, area, failed);
-    saved(time_out(rt, aborting, area, failed))
+    let aborting = time_out(receiver, area);
+    let ended = time_out(aborting, area);
+    text::show_step(out, End::Receiver, receiver.state(), aborting.state())?;
+    text::show_step(out, End::Receiver, aborting.state(), ended.state())?;
+    Ok(saved(ended))
 }
 
-// A session of a file that goes on from what the one before left. An end that has ended takes no call any more;
-// a failed write ends the session.
-pub fn session(
-    rt: &HostRuntime,
+// A session of a file that goes on from what the one before left. An end that has ended takes no call any more.
+pub fn session<W: Write>(
+    out: &mut W,
     before: Saved,
     checks: bool,
     name: &[u8],
     left: usize,
     file: &[u8],
     area: &mut [u8],
-    failed: &mut bool,
-) -> Saved
-    ensures { Session before checks name.now left file.now area.old failed.old failed.new result area.new }
+) -> io::Result<Saved>
+    ensures { Session before checks name.now left file.now area.old result area.new }
 {
     let mut e = begin(before, checks, name, left, file.len(), area.len());
-    let mut rest = 200_000_000u32;
-    while 0 < rest {
+    for _ in 0..MOST_TURNS {
         if is_over(e) {
             break;
         }
-        if *failed {
-            break;
-        }
-        e = turn(rt, e, file, area, failed);
-        rest -= 1;
+        let t = turn(e, file, area);
+        show_turn(out, e, t)?;
+        e = t.ends;
     }
-    end_sender(rt, e.sender, file, failed);
-    end_receiver(rt, e.receiver, area, failed)
+    end_sender(out, e.sender, file)?;
+    end_receiver(out, e.receiver, area)
 }

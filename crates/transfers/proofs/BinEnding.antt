@@ -1,11 +1,11 @@
 -- A session by extended #BIN# that has had neither timer nor stop comes to its end: what it has still to send and to take falls by as much as
 -- each call sends and takes; and where no call sends or takes anything, both ends have ended. Assumes nothing.
+use Rattle.std.specs.Prelude.{Ok, None, Option}
 use Prim.Native.Nat.{ℕ, ◌+◌, ◌-◌, ◌*◌, ◌≤◌}
 use mathlib.Core.Path.{◌≡◌, refl, ap}
 use mathlib.Core.Logic.{inl, inr}
 use mathlib.Core.Bool.{Bool, true, false}
 use mathlib.Core.List.{List, [], ◌∷◌}
-use mathlib.Core.Option.{Option, none}
 use native.Mathlib.Omega.{arith}
 use lib.ListN.{length, take, drop, length-append}
 use lib.Dec.{leb}
@@ -13,7 +13,6 @@ use Rattle.fields.specs.Pick.{pick}
 use Rattle.fields.specs.Buffer.{over}
 use Rattle.records.specs.Saved.{Saved}
 use Rattle.calls.specs.declared.Outcome.TheVariants.{Success}
-use Rattle.calls.specs.declared.Status.TheVariants.{Taken}
 use Rattle.calls.specs.Checks.{check_of, is_taken}
 use Rattle.bin.specs.declared.SenderState.{SenderState}
 use Rattle.bin.specs.declared.SenderState.TheVariants.{Start, Wait, Send, Ended}
@@ -97,8 +96,8 @@ module _ (w : World) (t : Settings) where
   Spends a c reply lent handed = let m = made w a c reply lent handed in work_of w c m + to_do (step_by w c lent m) ≤ to_do c
 
   -- a call that is taken
-  taken-spends : {c : Config} → Holds w t true c → (a : Act) (reply : List ℕ) → Calm a → checked w a c reply none none ≡ Taken
-      → Spends a c reply none none
+  taken-spends : {c : Config} → Holds w t true c → (a : Act) (reply : List ℕ) → Calm a → checked w a c reply None None ≡ (Ok tt)
+      → Spends a c reply None None
   unfolding transmit sender.receive receiver.transmit receive
   taken-spends (holds {s = s} {lr = lr} n) transmit_s reply q e =
       rw (e, settings-are w t s)
@@ -126,7 +125,7 @@ module _ (w : World) (t : Settings) where
       → Fair lent handed (checked w a c reply lent handed) → NoStop a (checked w a c reply lent handed) → Spends a c reply lent handed
   spends {c} h a reply lent handed f (inl q) =
       by-fair (Spends a c reply) f (refused-spends h a reply lent handed)
-      (by-check (checked w a c reply none none) (refused-spends h a reply none none) (taken-spends h a reply q))
+      (by-check (checked w a c reply None None) (refused-spends h a reply None None) (taken-spends h a reply q))
   spends h a reply lent handed f (inr e) = refused-spends h a reply lent handed e
 
   -- all calls together do no more than is to do at first

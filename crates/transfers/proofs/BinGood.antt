@@ -1,11 +1,11 @@
 -- The invariant of an extended #BIN# session over the states of both ends, the record and the frames on the way, and what each step of an
 -- end does to it. Assumes nothing.
+use Rattle.std.specs.Prelude.{Option, Some, ℕ, None}
 use Prim.Native.Nat.{ℕ, ◌+◌, ◌≤◌, ◌<◌}
 use mathlib.Core.Path.{◌≡◌, refl, ap, sym, ◌∙◌}
 use mathlib.Core.Logic.{◌≢◌}
 use mathlib.Core.Bool.{Bool, true, false, false≢true}
 use mathlib.Core.List.{List, [], ◌∷◌, ◌++◌, append-nil}
-use mathlib.Core.Option.{Option, none, some}
 use native.Mathlib.Omega.{arith}
 use lib.Dec.{eqb, leb}
 use lib.ListN.{length, take, drop}
@@ -13,8 +13,6 @@ use lib.Seq.{take-length}
 use borrow.Author.Tests.{leb-true, leb-false, le-leb, lt-leb, eq-eqb, eqb-true, eqb-false}
 use Rattle.fields.specs.Pick.{pick}
 use Rattle.fields.specs.Lists.{same}
-use Rattle.fields.specs.declared.Stamp.{Stamp}
-use Rattle.fields.specs.declared.Stamp.TheVariants.{Present}
 use Rattle.fields.specs.Buffer.{appended}
 use Rattle.fields.proofs.Lists.{same_refl}
 use Rattle.crc.specs.Crc.{crc_by}
@@ -92,10 +90,10 @@ module _ (w : World) (t : Settings) where
   pub data Good : SenderState → ReceiverState → Option Saved → List (List ℕ) → List (List ℕ) → Type 0 where
     g0 : {v : Option Saved} → Good Start Waiting v [] []
     g1 : {v : Option Saved} {m : ℕ} → m ≤ 0xFFFFFFFF → Good Wait Waiting v (line_frame m ∷ []) []
-    g2 : {k : ℕ} {s : ReceiverState} {m : Stamp} {q : List ℕ} → Stage k s → OkReply k q → Good Wait s (held w k m) [] (q ∷ [])
-    g3 : {k p : ℕ} {m : Stamp} {l : List (List ℕ)} → p < length w.file → Frames w.file [] k p l
+    g2 : {k : ℕ} {s : ReceiverState} {m : Option ℕ} {q : List ℕ} → Stage k s → OkReply k q → Good Wait s (held w k m) [] (q ∷ [])
+    g3 : {k p : ℕ} {m : Option ℕ} {l : List (List ℕ)} → p < length w.file → Frames w.file [] k p l
         → Good (Send p) (Takes (crc_by t.reading w.file)) (held w k m) l []
-    g4 : {k : ℕ} {s : ReceiverState} {m : Stamp} {l : List (List ℕ)} → Stage k s → Frames w.file [] k (length w.file) l
+    g4 : {k : ℕ} {s : ReceiverState} {m : Option ℕ} {l : List (List ℕ)} → Stage k s → Frames w.file [] k (length w.file) l
         → Good (Ended Success) s (held w k m) l []
 
   -- what may be on the way to a receiver when the sender has ended
@@ -103,7 +101,7 @@ module _ (w : World) (t : Settings) where
     at_rest : {o : Outcome} {v : Option Saved} {l : List (List ℕ)} → Flight (Over o) v l
     no_line : {v : Option Saved} {l : List (List ℕ)} → Stops l → Flight Waiting v l
     a-line : {v : Option Saved} {m : ℕ} {l : List (List ℕ)} → m ≤ 0xFFFFFFFF → Stops l → Flight Waiting v (line_frame m ∷ l)
-    frames : {k p : ℕ} {m : Stamp} {x l : List (List ℕ)} → Stops x → Frames w.file x k p l
+    frames : {k p : ℕ} {m : Option ℕ} {x l : List (List ℕ)} → Stops x → Frames w.file x k p l
         → Flight (Takes (crc_by t.reading w.file)) (held w k m) l
 
   -- a good phase, or one end at rest; at true only a good phase
@@ -113,15 +111,15 @@ module _ (w : World) (t : Settings) where
     faded : OverR r → Inv s r v lr ls false
 
   -- ---- what a receiver answers to a frame of the file and to the line
-  pub data Judged (k : ℕ) (m : Stamp) (area : List ℕ) (reply : List (List ℕ)) : ReceiverMove → Type 0 where
+  pub data Judged (k : ℕ) (m : Option ℕ) (area : List ℕ) (reply : List (List ℕ)) : ReceiverMove → Type 0 where
     judged : {s : ReceiverState} {n : ℕ} → Stage k s → Judged k m area reply (answers s (held w k m) area reply n)
 
   pub data Accepts (area : List ℕ) (tally : ℕ) : ReceiverMove → Type 0 where
-    at : {k : ℕ} {s : ReceiverState} {m : Stamp} {q : List ℕ} → stamp_fits m ≡ true → Stage k s → OkReply k q → k ≡ tally
+    at : {k : ℕ} {s : ReceiverState} {m : Option ℕ} {q : List ℕ} → stamp_fits m ≡ true → Stage k s → OkReply k q → k ≡ tally
         → {n : ℕ} → Accepts area tally (answers s (held w k m) area (q ∷ []) n)
 
   -- both CRCs are those of the same file
-  judge : (k : ℕ) (m : Stamp) (area : List ℕ) (reply : List (List ℕ)) (n tally : ℕ) → Stored w (held w k m) area tally
+  judge : (k : ℕ) (m : Option ℕ) (area : List ℕ) (reply : List (List ℕ)) (n tally : ℕ) → Stored w (held w k m) area tally
       → Judged k m area reply (judge_whole t.reading (crc_by t.reading w.file) (held w k m) area reply n)
   unfolding judge_whole
   judge k m area reply n tally h = go (eqb k (length w.file)) refl
@@ -129,7 +127,7 @@ module _ (w : World) (t : Settings) where
       go : (x : Bool) → eqb k (length w.file) ≡ x
           → Judged k m area reply (pick x
           (pick (eqb (crc_by t.reading (take (length w.file) area)) (crc_by t.reading w.file)) (answers (Over Success) (held w k m) area reply n)
-          (answers (Over CheckFailed) none area (stop_frame ∷ []) n)) (answers (Takes (crc_by t.reading w.file)) (held w k m) area reply n))
+          (answers (Over CheckFailed) None area (stop_frame ∷ []) n)) (answers (Takes (crc_by t.reading w.file)) (held w k m) area reply n))
       go true e =
           let q : k ≡ length w.file = eqb-true k (length w.file) e in
           let z : tally ≡ length w.file = sym h.kept ∙ q in
@@ -143,7 +141,7 @@ module _ (w : World) (t : Settings) where
   abbrev pub our_room : ReceiverSettings
   our_room = record { room = length w.area; resumes = true; reading = t.reading }
 
-  take-frame : (k : ℕ) (m : Stamp) (area : List ℕ) (tally : ℕ) (d : List ℕ) → Stored w (held w k m) area tally → Cut w.file k d
+  take-frame : (k : ℕ) (m : Option ℕ) (area : List ℕ) (tally : ℕ) (d : List ℕ) → Stored w (held w k m) area tally → Cut w.file k d
       → Judged (k + length d) m (appended k d area) [] (receiver_takes our_room (Takes (crc_by t.reading w.file)) (held w k m) area d)
   unfolding receiver_takes takes_frame
   take-frame k m area tally [] h c = absurd (omega (arith, c.block.filled))
@@ -151,26 +149,26 @@ module _ (w : World) (t : Settings) where
       rw (c.no_display, c.no_stop, le-leb (k + length (b ∷ d)) (length w.file) c.block.fits)
       (judge (k + length (b ∷ d)) m (appended k (b ∷ d) area) [] (length (b ∷ d)) (tally + length (b ∷ d)) (grown-by w (b ∷ d) h c.block).stored)
 
-  accepts : {k : ℕ} {m : Stamp} {area : List ℕ} {tally : ℕ} {q : List ℕ} {a : ReceiverMove} → stamp_fits m ≡ true → OkReply k q → k ≡ tally
+  accepts : {k : ℕ} {m : Option ℕ} {area : List ℕ} {tally : ℕ} {q : List ℕ} {a : ReceiverMove} → stamp_fits m ≡ true → OkReply k q → k ≡ tally
       → Judged k m area (q ∷ []) a → Accepts area tally a
   accepts f q e (judged s) = at f s q e
 
   line_kept : (v : Option Saved) (area : List ℕ) (tally : ℕ) (m : ℕ) → m ≤ 0xFFFFFFFF → Stored w v area tally
       → Accepts area tally (judge_record our_room v area (length w.file) (crc_by t.reading w.file) m true w.name)
   unfolding judge_record
-  line_kept none area tally m x h =
-      let f : stamp_fits (Present m) ≡ true = le-leb m 0xFFFFFFFF x in
+  line_kept None area tally m x h =
+      let f : stamp_fits (Some m) ≡ true = le-leb m 0xFFFFFFFF x in
       accepts f from_start h.kept
-      (judge 0 (Present m) area (says (ok_name w.name)) 0 tally (restamped w 0 (Present m) h h.kept f))
-  line_kept (some v) area tally m x h =
+      (judge 0 (Some m) area (says (ok_name w.name)) 0 tally (restamped w 0 (Some m) h h.kept f))
+  line_kept (Some v) area tally m x h =
       let o = h.ours v refl in
-      let f : stamp_fits (Present m) ≡ true = le-leb m 0xFFFFFFFF x in
+      let f : stamp_fits (Some m) ≡ true = le-leb m 0xFFFFFFFF x in
       let same_name : same v.name w.name ≡ true = rw o.name (same_refl w.name) in
       let same_size : eqb v.size (length w.file) ≡ true = eq-eqb _ _ o.size in
       let front : take v.kept area ≡ take v.kept w.file = rw h.kept h.front in
       rw (same_name, same_size, front)
       (accepts f (from-kept o.kept) h.kept
-      (judge v.kept (Present m) area (says (our_kept w t.reading v.kept)) 0 tally (restamped w v.kept (Present m) h h.kept f)))
+      (judge v.kept (Some m) area (says (our_kept w t.reading v.kept)) 0 tally (restamped w v.kept (Some m) h h.kept f)))
 
   line_read : (v : Option Saved) (area : List ℕ) (tally : ℕ) (m : ℕ) → m ≤ 0xFFFFFFFF → (f : List ℕ) → heard f ≡ our_line w t.reading m → 1 ≤ length f
       → Stored w v area tally → Accepts area tally (receiver_takes our_room Waiting v area f)
@@ -212,7 +210,7 @@ module _ (w : World) (t : Settings) where
     abbrev pub SentOn : SenderMove → ReceiverState → Option Saved → List (List ℕ) → List (List ℕ) → Bool → Type 0
     SentOn a r v lr ls o = Inv a.state r v (sent_to lr a.out reply) ls o
 
-    send-frame : {o : Bool} {k p : ℕ} {m : Stamp} {l : List (List ℕ)} → p < length w.file → Frames w.file [] k p l
+    send-frame : {o : Bool} {k p : ℕ} {m : Option ℕ} {l : List (List ℕ)} → p < length w.file → Frames w.file [] k p l
         → SentOn (sender_transmits our_sender w.file (Send p)) (Takes (crc_by t.reading w.file)) (held w k m) l [] o
     unfolding sender_transmits sends_from
     send-frame {o} {k} {p} {m} {l} h r = rw (sent-one l d reply c.block.filled) (go (leb (length w.file) (p + length d)) refl)
@@ -233,7 +231,7 @@ module _ (w : World) (t : Settings) where
             let q : p + length d < length w.file = omega (arith, leb-false) in
             good (g3 q (frames-snoc d c r))
 
-    begins-at : {k : ℕ} {s : ReceiverState} {m : Stamp} {o : Bool} → Stage k s → Inv (sends_from w.file k) s (held w k m) [] [] o
+    begins-at : {k : ℕ} {s : ReceiverState} {m : Option ℕ} {o : Bool} → Stage k s → Inv (sends_from w.file k) s (held w k m) [] [] o
     unfolding sends_from
     begins-at {k} (some_left h) = rw (lt-leb (length w.file) k h) (good (g3 h sent))
     begins-at {k} (all_there e) =
@@ -296,7 +294,7 @@ module _ (w : World) (t : Settings) where
     unfolding starts same
     unseen b = refl
 
-    stage-flight : {k p : ℕ} {s : ReceiverState} {m : Stamp} {x l : List (List ℕ)} → Stage k s → Stops x → Frames w.file x k p l
+    stage-flight : {k p : ℕ} {s : ReceiverState} {m : Option ℕ} {x l : List (List ℕ)} → Stage k s → Stops x → Frames w.file x k p l
         → Flight s (held w k m) l
     stage-flight (some_left h) q r = frames q r
     stage-flight (all_there e) q r = at_rest
@@ -327,12 +325,12 @@ module _ (w : World) (t : Settings) where
           seen = stage-seen s q;
         }
 
-    stage-good : {k p : ℕ} {s : ReceiverState} {m : Stamp} {l : List (List ℕ)} {o : Bool} → Stage k s → p < length w.file
+    stage-good : {k p : ℕ} {s : ReceiverState} {m : Option ℕ} {l : List (List ℕ)} {o : Bool} → Stage k s → p < length w.file
         → Frames w.file [] k p l → Inv (Send p) s (held w k m) l [] o
     stage-good (some_left h) q r = good (g3 q r)
     stage-good (all_there e) q r = absurd (omega (arith, frames-le r))
 
-    module _ {k : ℕ} {m : Stamp} {d : List ℕ} (h : Stored w (held w k m) area tally) (b : Block w.file k d) where
+    module _ {k : ℕ} {m : Option ℕ} {d : List ℕ} (h : Stored w (held w k m) area tally) (b : Block w.file k d) where
       frame-send : {p : ℕ} {l : List (List ℕ)} {o : Bool} {a : ReceiverMove} → Judged (k + length d) m (appended k d area) [] a → p < length w.file
           → Frames w.file [] (k + length d) p l → TakenOn (Takes (crc_by t.reading w.file)) (Send p) a l [] o (length d)
       frame-send (judged s) q r = record { inv = stage-good s q r; stored = grown-by w d h b; short = omega arith; seen = stage-stays s }
@@ -363,7 +361,7 @@ module _ (w : World) (t : Settings) where
     brings : {k : ℕ} {d : List ℕ} → Cut w.file k d → file_in true d ≡ length d
     brings c = rw (c.no_display, c.no_stop)
 
-    late : {s : SenderState} {k : ℕ} {m : Stamp} {ls : List (List ℕ)} → EndedS s → Stored w (held w k m) area tally
+    late : {s : SenderState} {k : ℕ} {m : Option ℕ} {ls : List (List ℕ)} → EndedS s → Stored w (held w k m) area tally
         → TakenOn (Takes (crc_by t.reading w.file)) s (receiver_takes our_room (Takes (crc_by t.reading w.file)) (held w k m) area stop_frame) [] ls false (file_in true stop_frame)
     unfolding receiver_takes starts same
     late x h = record { inv = fades x at_rest; stored = unmoved w h; short = omega arith; seen = λ e. over e }

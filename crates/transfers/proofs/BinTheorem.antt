@@ -1,11 +1,13 @@
 -- Demand 3 for a session by extended #BIN#: what it leaves, and that one with neither timer nor stop that is run to its end is complete.
 -- Assumes nothing.
+use Rattle.calls.specs.declared.Refusal.TheVariants.{LongFrame, Over, SmallReply, WrongLength}
+use Rattle.calls.specs.declared.Refusal.{Refusal}
+use Rattle.std.specs.Prelude.{Err, Ok, Result, None, Option, Some}
 use Prim.Native.Nat.{ℕ, ◌≤◌}
 use mathlib.Core.Path.{subst, ◌≡◌, refl, ap, sym, ◌∙◌}
 use mathlib.Core.Logic.{◌⊎◌, inl, inr}
 use mathlib.Core.Bool.{Bool, true, false, false≢true}
 use mathlib.Core.List.{List, [], ◌∷◌, append-nil}
-use mathlib.Core.Option.{Option, none, some}
 use native.Mathlib.Omega.{arith}
 use native.Mathlib.Nat.{add-zero}
 use lib.ListN.{length, take, replicate}
@@ -19,8 +21,6 @@ use Rattle.lines.specs.Frame.{starts}
 use Rattle.fields.proofs.Lists.{name-length}
 use Rattle.records.specs.Saved.{Saved}
 use Rattle.calls.specs.declared.Outcome.TheVariants.{Success, TimedOut, Stopped}
-use Rattle.calls.specs.declared.Status.{Status}
-use Rattle.calls.specs.declared.Status.TheVariants.{Taken, Over, LongFrame, SmallReply, WrongLength}
 use Rattle.calls.specs.Checks.{check_of, is_taken}
 use Rattle.calls.proofs.Laws.{taken-open, check-taken}
 use Rattle.calls.specs.Saving.{saved_by, keeping_of, name_of, kept_of}
@@ -77,7 +77,7 @@ module _ (w : World) (t : Settings) where
         → Now o s r v arr area lr ls acc tally laid → Holds o (cfg s r v arr area lr ls acc tally laid)
 
   -- what a call with the check x does: fairly made it leaves what holds, it answers as it is checked, and refused it changes nothing
-  record Does (b : Bool) (c : Config) (lent handed : Option (List ℕ)) (x : Status) (m : Made w) : Type 0 where
+  record Does (b : Bool) (c : Config) (lent handed : Option (List ℕ)) (x : Result (Unit {0}) Refusal) (m : Made w) : Type 0 where
     keeps : Fair lent handed x → Holds b (step_by w c lent m)
     answers : status_in w m ≡ x
     unmoved : is_taken x ≡ false → (step_by w c lent m ≡ c) × (work_of w c m ≡ 0)
@@ -92,18 +92,18 @@ module _ (w : World) (t : Settings) where
     now = cfg s r v arr area lr ls acc tally laid
 
     -- what a call with the status x answers, taken or refused
-    abbrev answer_s : SenderMove → List ℕ → Status → sender.SenderAfter
+    abbrev answer_s : SenderMove → List ℕ → Result (Unit {0}) Refusal → sender.SenderAfter
     answer_s a reply x = sender.unless_refused x (sender_at w t s) reply (sender.replied (sender_at w t s) a reply)
 
-    abbrev answer_r : Place → ReceiverMove → List ℕ → List ℕ → Status → receiver.ReceiverAfter
+    abbrev answer_r : Place → ReceiverMove → List ℕ → List ℕ → Result (Unit {0}) Refusal → receiver.ReceiverAfter
     answer_r shown a lent reply x = receiver.unless_refused x (receiver_at w t r v arr) lent reply (receiver.replied (receiver_at w t r v arr) shown a reply)
 
     -- a refused call at either end, which leaves all that was on the way
-    refused-S : (lent handed : Option (List ℕ)) (x : Status) (reply : List ℕ) (left : List (List ℕ)) → left ≡ ls
+    refused-S : (lent handed : Option (List ℕ)) (x : Result (Unit {0}) Refusal) (reply : List ℕ) (left : List (List ℕ)) → left ≡ ls
         → Does o now lent handed x (by_sender (sender.refused_call (sender_at w t s) x reply) left)
     refused-S lent handed x reply left q = record { keeps = λ f. rw q (holds n); answers = refl; unmoved = λ e. (rw q, rw q (omega arith)) }
 
-    refused-R : (lent handed : Option (List ℕ)) (x : Status) (reply : List ℕ) (left : List (List ℕ)) (came : ℕ) → left ≡ lr → came ≡ 0
+    refused-R : (lent handed : Option (List ℕ)) (x : Result (Unit {0}) Refusal) (reply : List ℕ) (left : List (List ℕ)) (came : ℕ) → left ≡ lr → came ≡ 0
         → Does o now lent handed x (by_receiver (receiver.refused_call (receiver_at w t r v arr) x (lent_or area lent) reply) left came)
     unfolding starts same
     refused-R lent handed x reply left came q z = record {
@@ -114,52 +114,52 @@ module _ (w : World) (t : Settings) where
 
     -- a call at the sender, which moves by the frame that is handed over and the file that is lent; left is what it leaves on the way, all of
     -- it where it is refused
-    sender-call : (move : Option (List ℕ) → List ℕ → SenderMove) (left : Bool → List (List ℕ)) (reply : List ℕ) (lent handed : Option (List ℕ)) (x : Status)
-        → left false ≡ ls → Short (left true) → Inv w t (move none w.file).state r v (sent_to lr (move none w.file).out reply) (left true) o
+    sender-call : (move : Option (List ℕ) → List ℕ → SenderMove) (left : Bool → List (List ℕ)) (reply : List ℕ) (lent handed : Option (List ℕ)) (x : Result (Unit {0}) Refusal)
+        → left false ≡ ls → Short (left true) → Inv w t (move None w.file).state r v (sent_to lr (move None w.file).out reply) (left true) o
         → Does o now lent handed x (by_sender (answer_s (move handed (lent_or w.file lent)) reply x) (left (is_taken x)))
-    sender-call move left reply lent handed Taken q z j = record { keeps = go lent handed; answers = refl; unmoved = λ e. absurd (false≢true (sym e)) }
+    sender-call move left reply lent handed (Ok tt) q z j = record { keeps = go lent handed; answers = refl; unmoved = λ e. absurd (false≢true (sym e)) }
       where
-        go : (lent handed : Option (List ℕ)) → Fair lent handed Taken
-            → Holds o (step_s now (answer_s (move handed (lent_or w.file lent)) reply Taken) (left true))
+        go : (lent handed : Option (List ℕ)) → Fair lent handed (Ok tt)
+            → Holds o (step_s now (answer_s (move handed (lent_or w.file lent)) reply (Ok tt)) (left true))
         go _ _ own = holds (record { array = n.array; tied = n.tied; inv = j; stored = n.stored; account = n.account; short = z; watched = n.watched })
         go lent handed (refused x) = absurd (false≢true (sym x))
-    sender-call move left reply lent handed Over q z j = refused-S lent handed Over reply (left false) q
-    sender-call move left reply lent handed LongFrame q z j = refused-S lent handed LongFrame reply (left false) q
-    sender-call move left reply lent handed SmallReply q z j = refused-S lent handed SmallReply reply (left false) q
-    sender-call move left reply lent handed WrongLength q z j = refused-S lent handed WrongLength reply (left false) q
+    sender-call move left reply lent handed (Err Over) q z j = refused-S lent handed (Err Over) reply (left false) q
+    sender-call move left reply lent handed (Err LongFrame) q z j = refused-S lent handed (Err LongFrame) reply (left false) q
+    sender-call move left reply lent handed (Err SmallReply) q z j = refused-S lent handed (Err SmallReply) reply (left false) q
+    sender-call move left reply lent handed (Err WrongLength) q z j = refused-S lent handed (Err WrongLength) reply (left false) q
 
     -- a call at the receiver, which moves by the frame that is handed over and the area that is lent; came is how many bytes of the file come
     -- with it, none where it is refused
     receiver-call : (move : Option (List ℕ) → List ℕ → ReceiverMove) (shown : Option (List ℕ) → Place) (left : Bool → List (List ℕ))
-        (came : Option (List ℕ) → Bool → ℕ) (reply : List ℕ) (lent handed : Option (List ℕ)) (x : Status)
+        (came : Option (List ℕ) → Bool → ℕ) (reply : List ℕ) (lent handed : Option (List ℕ)) (x : Result (Unit {0}) Refusal)
         → left false ≡ lr → came handed false ≡ 0 → (is_taken x ≡ true → receiver_ended r ≡ false)
-        → (is_taken x ≡ true → TakenOn w t reply area tally r s (move none area) (left true) ls o (came none true))
+        → (is_taken x ≡ true → TakenOn w t reply area tally r s (move None area) (left true) ls o (came None true))
         → Does o now lent handed x
         (by_receiver (answer_r (shown handed) (move handed (lent_or area lent)) (lent_or area lent) reply x) (left (is_taken x)) (came handed (is_taken x)))
-    receiver-call move shown left came reply lent handed Taken q z y k =
+    receiver-call move shown left came reply lent handed (Ok tt) q z y k =
         record { keeps = go lent handed; answers = refl; unmoved = λ e. absurd (false≢true (sym e)) }
       where
-        j : TakenOn w t reply area tally r s (move none area) (left true) ls o (came none true)
+        j : TakenOn w t reply area tally r s (move None area) (left true) ls o (came None true)
         j = k refl
 
-        go : (lent handed : Option (List ℕ)) → Fair lent handed Taken
-            → Holds o (step_r w now lent (answer_r (shown handed) (move handed (lent_or area lent)) (lent_or area lent) reply Taken) (left true) (came handed true))
+        go : (lent handed : Option (List ℕ)) → Fair lent handed (Ok tt)
+            → Holds o (step_r w now lent (answer_r (shown handed) (move handed (lent_or area lent)) (lent_or area lent) reply (Ok tt)) (left true) (came handed true))
         go _ _ own =
-            let l = name-short w (move none area).saved j.stored.stored.ours in
-            holds {acc = accepted_by (take (length (joined (move none area).out)) (over 0 (joined (move none area).out) reply)) acc} (record {
-              array = name-room (name_of (move none area).saved) arr n.array l;
-              tied = saved-back (move none area).saved arr n.array l;
+            let l = name-short w (move None area).saved j.stored.stored.ours in
+            holds {acc = accepted_by (take (length (joined (move None area).out)) (over 0 (joined (move None area).out) reply)) acc} (record {
+              array = name-room (name_of (move None area).saved) arr n.array l;
+              tied = saved-back (move None area).saved arr n.array l;
               inv = j.inv;
               stored = j.stored.stored;
-              account = j.stored.laid ∙ ap (laid_by w tally (came none true)) n.account;
-              short = short-sent ls (move none area).out reply j.short n.short;
-              watched = λ e. rw (sent_is (joined (move none area).out) reply, n.watched (y refl)) (j.seen e);
+              account = j.stored.laid ∙ ap (laid_by w tally (came None true)) n.account;
+              short = short-sent ls (move None area).out reply j.short n.short;
+              watched = λ e. rw (sent_is (joined (move None area).out) reply, n.watched (y refl)) (j.seen e);
             })
         go lent handed (refused x) = absurd (false≢true (sym x))
-    receiver-call move shown left came reply lent handed Over q z y k = refused-R lent handed Over reply (left false) (came handed false) q z
-    receiver-call move shown left came reply lent handed LongFrame q z y k = refused-R lent handed LongFrame reply (left false) (came handed false) q z
-    receiver-call move shown left came reply lent handed SmallReply q z y k = refused-R lent handed SmallReply reply (left false) (came handed false) q z
-    receiver-call move shown left came reply lent handed WrongLength q z y k = refused-R lent handed WrongLength reply (left false) (came handed false) q z
+    receiver-call move shown left came reply lent handed (Err Over) q z y k = refused-R lent handed (Err Over) reply (left false) (came handed false) q z
+    receiver-call move shown left came reply lent handed (Err LongFrame) q z y k = refused-R lent handed (Err LongFrame) reply (left false) (came handed false) q z
+    receiver-call move shown left came reply lent handed (Err SmallReply) q z y k = refused-R lent handed (Err SmallReply) reply (left false) (came handed false) q z
+    receiver-call move shown left came reply lent handed (Err WrongLength) q z y k = refused-R lent handed (Err WrongLength) reply (left false) (came handed false) q z
 
     -- ---- the calls
     does-transmit_s : Serving o transmit_s now
@@ -302,7 +302,7 @@ module _ (w : World) (t : Settings) where
   short-R (f ∷ lr) i e = front_short w t i e
 
   pub check_takes : {o : Bool} {c : Config} → Holds o c → (a : Act) (reply : List ℕ) → ended_at w a c ≡ false → 259 ≤ length reply
-      → checked w a c reply none none ≡ Taken
+      → checked w a c reply None None ≡ (Ok tt)
   check_takes (holds n) transmit_s reply e l = check-taken (length reply) 0 (length w.file) (length w.file) e l (omega arith) refl
   check_takes (holds {ls = ls} n) (receive_s k) reply e l =
       check-taken (length reply) (length (front ls)) (length w.file) (length w.file) e l (short-S ls n.short) refl
@@ -318,7 +318,7 @@ module _ (w : World) (t : Settings) where
   serves h = record {
     as_checked = λ k. (does k.act h k.reply k.lent k.handed).answers;
     refused = λ k. (does k.act h k.reply k.lent k.handed).unmoved;
-    taken = λ a reply e l. (does a h reply none none).answers ∙ check_takes h a reply e l;
+    taken = λ a reply e l. (does a h reply None None).answers ∙ check_takes h a reply e l;
   }
 
   -- ---- the beginning
@@ -328,7 +328,7 @@ module _ (w : World) (t : Settings) where
   sender-begins = rw (w.named, le-leb (length w.file) 99999999 w.size, le-leb 1 t.block t.block_some, le-leb t.block 256 t.block_most)
 
   receiver-with : (u : Saved) → Ours w u
-      → receiver.with_saved (length w.area) true t.reading u ≡ receiver_at w t Waiting (some u) (appended 0 u.name (replicate 64 0))
+      → receiver.with_saved (length w.area) true t.reading u ≡ receiver_at w t Waiting (Some u) (appended 0 u.name (replicate 64 0))
   unfolding receiver.with_saved
   receiver-with u h =
       let x = h.kept in
@@ -339,11 +339,11 @@ module _ (w : World) (t : Settings) where
       rw (le-leb u.kept u.size a, le-leb u.size (length w.area) b)
 
   -- the record that is read back is the one that was written
-  receiver-begins : (v : Option Saved) → ((u : Saved) → v ≡ some u → Ours w u)
+  receiver-begins : (v : Option Saved) → ((u : Saved) → v ≡ Some u → Ours w u)
       → receiver_by (length w.area) t.reading (saved_bytes (form_by v)) ≡ receiver_at w t Waiting v (appended 0 (name_of v) (replicate 64 0))
   unfolding fresh resume
-  receiver-begins none o = refl
-  receiver-begins (some u) o =
+  receiver-begins None o = refl
+  receiver-begins (Some u) o =
       let h = o u refl in
       let q = ours-back w u h in
       rw (ours-form w u h, q.1) (ap (receiver.with_saved (length w.area) true t.reading) q.2 ∙ receiver-with u h)

@@ -1,10 +1,10 @@
 -- What the computed lists of sessions share: all that a session computes with, and calls.
 -- Assumes nothing.
+use Rattle.std.specs.Prelude.{None, Some}
 use Prim.Native.Nat.{ℕ}
 use mathlib.Core.Path.{◌≡◌, refl}
 use mathlib.Core.Bool.{true}
 use mathlib.Core.List.{List, [], ◌∷◌}
-use mathlib.Core.Option.{none, some}
 use lib.ListN.{replicate}
 use Rattle.fields.specs.Lists.{all, up_to, same}
 use Rattle.fields.specs.Name.{is_name, is_name_byte}
@@ -46,15 +46,15 @@ named = refl
 
 -- a call that gets its own file or area, what is on the way, and room for a reply
 abbrev pub made : Act → Call
-made a = record { act = a; reply = replicate 259 0; lent = none; handed = none }
+made a = record { act = a; reply = replicate 259 0; lent = None; handed = None }
 
 -- a call that is handed a frame of 257 bytes: it is refused (19)
 abbrev pub long : Call
-long = record { act = receive_r 300; reply = replicate 259 0; lent = none; handed = some (replicate 257 0) }
+long = record { act = receive_r 300; reply = replicate 259 0; lent = None; handed = Some (replicate 257 0) }
 
 -- a call that is lent an area of two bytes: it is refused (40)
 abbrev pub other : Call
-other = record { act = receive_r 300; reply = replicate 259 0; lent = some (8 ∷ 8 ∷ []); handed = none }
+other = record { act = receive_r 300; reply = replicate 259 0; lent = Some (8 ∷ 8 ∷ []); handed = None }
 
 -- a leave sends nothing: an ended sender refuses it, and a receiver sends nothing at any
 pub silent-S : (m : Sender) (own reply : List ℕ) → bsteps.sender_ended m.core.state ≡ true → (bends.transmit m own reply).answer.sent ≡ 0

@@ -1,22 +1,20 @@
 -- A second list of sessions, computed, with no theorem of demand 3: by YAPP, broken off in the data; by YAPP, resumed and broken off; by #BIN#,
 -- resumed and run to its end. A wrong sender or receiver falls here by computation. Assumes nothing.
+use Rattle.std.specs.Prelude.{Some}
 use Prim.Native.Nat.{ℕ, zero, suc}
 use mathlib.Core.Path.{◌≡◌, refl, ap, sym, subst, ◌∙◌}
 use mathlib.Core.Bool.{Bool, true, false}
 use mathlib.Core.List.{List, [], ◌∷◌, ◌++◌}
-use mathlib.Core.Option.{some}
 use mathlib.Core.Logic.{inl}
 use lib.ListN.{take, drop, replicate}
 use lib.Dec.{lit≤}
 use Rattle.fields.specs.Lists.{all}
-use Rattle.fields.specs.declared.Stamp.TheVariants.{Present}
 use Rattle.numbers.specs.Canonical.{is_byte}
 use Rattle.lines.specs.Frame.{display_mark, stop_frame}
 use Rattle.packets.proofs.Whole.{byte_at}
 use Rattle.crc.specs.declared.Reading.TheVariants.{Bare}
 use Rattle.calls.specs.declared.Outcome.TheVariants.{Success}
 use Rattle.calls.specs.Checks.{is_taken}
-use Rattle.calls.specs.declared.Keeping.TheVariants.{Of}
 use Rattle.bin.specs.declared.Announce.TheVariants.{Extended as Announced}
 use Rattle.bin.specs.declared.SenderState.{SenderState as BinSenderState}
 use Rattle.bin.specs.declared.SenderState.TheVariants.{Send, Ended as Sent}
@@ -75,7 +73,7 @@ moving zero acts = acts
 moving (suc n) acts = transmit_s ∷ receive_r 300 ∷ moving n acts
 
 abbrev pub settings_y : Bool → yapp.Settings
-settings_y checks = record { block = 32; block_some = lit≤ tt; block_most = lit≤ tt; stamp = Present 7; stamp_in_range = refl; checks = checks }
+settings_y checks = record { block = 32; block_some = lit≤ tt; block_most = lit≤ tt; stamp = Some 7; stamp_in_range = refl; checks = checks }
 
 abbrev pub settings_b : bin.Settings
 settings_b = record { block = 256; block_some = lit≤ tt; block_most = lit≤ tt; stamp = 7; stamp_in_range = lit≤ tt; reading = Bare }
@@ -124,22 +122,22 @@ record_with low high = 16 ∷ 0 ∷ 2 ∷ 0 ∷ 10 ∷ 1 ∷ 0 ∷ 0 ∷ low ∷
 
 -- the first: 256 bytes
 abbrev pub part : Left
-part = record { area = holding 256; saved = some (record_with 0 1); tally = 256; laid = holding 256 }
+part = record { area = holding 256; saved = Some (record_with 0 1); tally = 256; laid = holding 256 }
 
 -- the second: none are kept any more, and the area stays
 abbrev pub fallen : Left
-fallen = record { area = holding 256; saved = some (record_with 0 0); tally = 0; laid = holding 256 }
+fallen = record { area = holding 256; saved = Some (record_with 0 0); tally = 0; laid = holding 256 }
 
 -- the third: the whole file
 abbrev pub whole : Left
-whole = record { area = holding 266; saved = some (record_with 10 1); tally = 266; laid = holding 266 }
+whole = record { area = holding 266; saved = Some (record_with 10 1); tally = 266; laid = holding 266 }
 
 pub leaves1 : leaves_by w session1 (first w) ≡ part
 unfolding opened
 leaves1 = refl
 
 -- the record's count is the tally
-pub counts1 : kept_in (leaves_by w session1 (first w)).saved ≡ some (leaves_by w session1 (first w)).tally
+pub counts1 : kept_in (leaves_by w session1 (first w)).saved ≡ Some (leaves_by w session1 (first w)).tally
 unfolding opened
 counts1 = refl
 
@@ -147,7 +145,7 @@ pub leaves2 : leaves_by w session2 part ≡ fallen
 unfolding opened
 leaves2 = refl
 
-pub counts2 : kept_in (leaves_by w session2 part).saved ≡ some (leaves_by w session2 part).tally
+pub counts2 : kept_in (leaves_by w session2 part).saved ≡ Some (leaves_by w session2 part).tally
 unfolding opened
 counts2 = refl
 
@@ -162,7 +160,7 @@ stands s r kept n = record {
       room = 268;
       resumes = true;
       reading = Bare;
-      keeping = Of (record { named = 1; size = 266; kept = kept; stamp = Present 7 });
+      keeping = Some (record { named = 1; size = 266; kept = kept; stamp = Some 7 });
     };
   };
   area = holding n;

@@ -1,10 +1,12 @@
 -- A session by YAPP that has had no timer and no stop comes to its end: every byte that is sent or taken brings it nearer.
 -- Assumes nothing.
+use Rattle.calls.specs.declared.Refusal.TheVariants.{LongFrame, Over, SmallReply, WrongLength}
+use Rattle.calls.specs.declared.Refusal.{Refusal}
+use Rattle.std.specs.Prelude.{Err, Ok, Result, None, Option}
 use Prim.Native.Nat.{ℕ, ◌+◌, ◌-◌, ◌*◌, ◌≤◌}
 use mathlib.Core.Path.{◌≡◌, refl, ◌∙◌}
 use mathlib.Core.Bool.{Bool, true, false}
 use mathlib.Core.List.{List, [], ◌∷◌, append-nil}
-use mathlib.Core.Option.{Option, none}
 use mathlib.Core.Logic.{◌⊎◌, inl, inr}
 use native.Mathlib.Omega.{arith}
 use lib.ListN.{length, take, length-append, length-take, length-drop}
@@ -17,8 +19,6 @@ use Rattle.packet_stream.specs.declared.Reader.{Reader}
 use Rattle.packet_stream.specs.declared.Received.{Received}
 use Rattle.packet_stream.specs.Reader.{receive as reads}
 use Rattle.packet_stream.proofs.Feeding.{feed-within, feed-some}
-use Rattle.calls.specs.declared.Status.{Status}
-use Rattle.calls.specs.declared.Status.TheVariants.{Taken, Over, LongFrame, SmallReply, WrongLength}
 use Rattle.calls.specs.Checks.{check_of, is_taken}
 use Rattle.yapp.specs.declared.SenderState.{SenderState}
 use Rattle.yapp.specs.declared.SenderState.TheVariants.{S, SH, SD, SE, ST, CW, Ended}
@@ -188,19 +188,19 @@ module _ (w : World) (t : Settings) where
   most-taken r n l = omega (arith, (feed-within r.checked r.pending r.filled 0 (take n l)).most, length-take n l)
 
   -- a call that sends no packet sends no byte, taken or refused
-  quiet-S : (m : Sender) (x : Status) (reply : List ℕ) (a : SenderMove) → a.out ≡ []
+  quiet-S : (m : Sender) (x : Result (Unit {0}) Refusal) (reply : List ℕ) (a : SenderMove) → a.out ≡ []
       → (unless_refused x m reply (replied m m.reader 0 nowhere a reply)).answer.sent ≡ 0
-  quiet-S m Taken reply a e = rw e (silent a.checked)
-  quiet-S m Over reply a e = refl
-  quiet-S m LongFrame reply a e = refl
-  quiet-S m SmallReply reply a e = refl
-  quiet-S m WrongLength reply a e = refl
+  quiet-S m (Ok tt) reply a e = rw e (silent a.checked)
+  quiet-S m (Err Over) reply a e = refl
+  quiet-S m (Err LongFrame) reply a e = refl
+  quiet-S m (Err SmallReply) reply a e = refl
+  quiet-S m (Err WrongLength) reply a e = refl
 
   -- ---- the calls that are taken, lent their own file or area and handed what is on the way
 
   module _ (c : Config) (h : Holds w t true c) where
     abbrev Spends : Act → List ℕ → Type 0
-    Spends a reply = work_in w a c reply + far (step_by w c none (made w a c reply none none)) ≤ far c
+    Spends a reply = work_in w a c reply + far (step_by w c None (made w a c reply None None)) ≤ far c
 
     abbrev phase : Type 0
     phase = WInv w t c.snd.core.state c.snd.reader c.rcv.core.state c.rcv.reader (saved_in c.rcv) c.to_r c.to_s true
@@ -223,20 +223,20 @@ module _ (w : World) (t : Settings) where
     comes n (in-phase g e f) = came-nearer c.area c.tally (reads c.rcv.reader (take n c.to_r)) g h.kept (view c.rcv.reader n c.to_r e)
 
     -- the status of a call at either end, with its own file or area
-    at-S : (reply : List ℕ) → sender_ended c.snd.core.state ≡ false → 259 ≤ length reply → status_of c.snd w.file reply ≡ Taken
-    at-S reply e l = status-S w t c h reply none ∙ check_takes w t c h transmit_s reply e l
+    at-S : (reply : List ℕ) → sender_ended c.snd.core.state ≡ false → 259 ≤ length reply → status_of c.snd w.file reply ≡ (Ok tt)
+    at-S reply e l = status-S w t c h reply None ∙ check_takes w t c h transmit_s reply e l
 
-    at-R : (reply : List ℕ) → receiver_ended c.rcv.core.state ≡ false → 259 ≤ length reply → status_r c.rcv c.area reply ≡ Taken
-    at-R reply e l = status-R w t c h reply none ∙ check_takes w t c h transmit_r reply e l
+    at-R : (reply : List ℕ) → receiver_ended c.rcv.core.state ≡ false → 259 ≤ length reply → status_r c.rcv c.area reply ≡ (Ok tt)
+    at-R reply e l = status-R w t c h reply None ∙ check_takes w t c h transmit_r reply e l
 
-    spends-transmit_s : (reply : List ℕ) → status_of c.snd w.file reply ≡ Taken → Spends transmit_s reply
+    spends-transmit_s : (reply : List ℕ) → status_of c.snd w.file reply ≡ (Ok tt) → Spends transmit_s reply
     unfolding transmit
     spends-transmit_s reply e =
         let m = leaving c.snd.core.state c.snd.reader.checked in
         let n = leave-nearer (leaves h.inv) in
         rw (e, h.sender_settings, sent_is (writes m.checked m.out) reply) (simp length-append (omega arith))
 
-    spends-receive_s : (n : ℕ) (reply : List ℕ) → status_of c.snd w.file reply ≡ Taken → Spends (receive_s n) reply
+    spends-receive_s : (n : ℕ) (reply : List ℕ) → status_of c.snd w.file reply ≡ (Ok tt) → Spends (receive_s n) reply
     unfolding receive
     spends-receive_s n reply e =
         let m = hearing n in
@@ -248,7 +248,7 @@ module _ (w : World) (t : Settings) where
     unfolding transmit_r'
     spends-transmit_r reply = simp length-append (omega arith)
 
-    spends-receive_r : (n : ℕ) (reply : List ℕ) → status_r c.rcv c.area reply ≡ Taken → Spends (receive_r n) reply
+    spends-receive_r : (n : ℕ) (reply : List ℕ) → status_r c.rcv c.area reply ≡ (Ok tt) → Spends (receive_r n) reply
     unfolding receive_r'
     spends-receive_r n reply e =
         let m = coming n in
@@ -257,24 +257,24 @@ module _ (w : World) (t : Settings) where
         rw (e, h.receiver_settings, sent_is (writes m.checked m.out) reply) (simp (length-append, length-drop) (omega arith))
 
     -- something is on the way to an end that has not ended: some of it is taken
-    takes-S : (n : ℕ) (reply : List ℕ) {x : ℕ} {l : List ℕ} → 1 ≤ n → status_of c.snd w.file reply ≡ Taken → c.to_s ≡ x ∷ l
+    takes-S : (n : ℕ) (reply : List ℕ) {x : ℕ} {l : List ℕ} → 1 ≤ n → status_of c.snd w.file reply ≡ (Ok tt) → c.to_s ≡ x ∷ l
         → 1 ≤ work_in w (receive_s n) c reply
     unfolding receive
     takes-S n reply m e q = let y = some-taken c.snd.reader n m q in rw e (omega arith)
 
-    takes-R : (n : ℕ) (reply : List ℕ) {x : ℕ} {l : List ℕ} → 1 ≤ n → status_r c.rcv c.area reply ≡ Taken → c.to_r ≡ x ∷ l
+    takes-R : (n : ℕ) (reply : List ℕ) {x : ℕ} {l : List ℕ} → 1 ≤ n → status_r c.rcv c.area reply ≡ (Ok tt) → c.to_r ≡ x ∷ l
         → 1 ≤ work_in w (receive_r n) c reply
     unfolding receive_r'
     takes-R n reply m e q = let y = some-taken c.rcv.reader n m q in rw e (omega arith)
 
     -- a call that is taken spends as many bytes as it sends and takes
-    spends : (a : Act) (reply : List ℕ) → Calm a → checked w a c reply none ≡ Taken → Spends a reply
-    spends transmit_s reply q e = spends-transmit_s reply (status-S w t c h reply none ∙ e)
-    spends (receive_s n) reply q e = spends-receive_s n reply (status-S w t c h reply none ∙ e)
+    spends : (a : Act) (reply : List ℕ) → Calm a → checked w a c reply None ≡ (Ok tt) → Spends a reply
+    spends transmit_s reply q e = spends-transmit_s reply (status-S w t c h reply None ∙ e)
+    spends (receive_s n) reply q e = spends-receive_s n reply (status-S w t c h reply None ∙ e)
     spends timeout_s reply q e = absurd q
     spends cancel_s reply q e = absurd q
     spends transmit_r reply q e = spends-transmit_r reply
-    spends (receive_r n) reply q e = spends-receive_r n reply (status-R w t c h reply none ∙ e)
+    spends (receive_r n) reply q e = spends-receive_r n reply (status-R w t c h reply None ∙ e)
     spends timeout_r reply q e = absurd q
     spends cancel_r reply q e = absurd q
 
@@ -290,7 +290,7 @@ module _ (w : World) (t : Settings) where
     spends-call a reply lent handed f (inr e) = idles a reply lent handed e
     spends-call a reply lent handed f (inl q) =
         by-fair (λ (l g : Option (List ℕ)). work_of w (made w a c reply l g) + far (step_by w c l (made w a c reply l g)) ≤ far c) f
-        (idles a reply lent handed) (by-check (checked w a c reply none) (idles a reply none none) (spends a reply q))
+        (idles a reply lent handed) (by-check (checked w a c reply None) (idles a reply None None) (spends a reply q))
 
     -- ---- a session in which nothing more is sent or taken is run to its end
 

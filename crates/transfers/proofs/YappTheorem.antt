@@ -1,10 +1,12 @@
 -- Demand 3 for one session by YAPP: what it leaves is again as it has to be, and without timers and stops, run to its end, it is complete.
 -- Assumes nothing.
+use Rattle.calls.specs.declared.Refusal.TheVariants.{LongFrame, Over, SmallReply, WrongLength}
+use Rattle.calls.specs.declared.Refusal.{Refusal}
+use Rattle.std.specs.Prelude.{Err, Ok, Result, None, Option, Some}
 use Prim.Native.Nat.{ℕ, ◌-◌, ◌≤◌}
 use mathlib.Core.Path.{subst, ◌≡◌, refl, ap, sym, ◌∙◌}
 use mathlib.Core.Bool.{Bool, true, false, false≢true}
 use mathlib.Core.List.{List, [], ◌∷◌, append-nil}
-use mathlib.Core.Option.{Option, none, some}
 use mathlib.Core.Logic.{◌⊎◌, inl, inr}
 use native.Mathlib.Omega.{arith}
 use native.Mathlib.Nat.{add-zero, sub-zero}
@@ -26,8 +28,6 @@ use Rattle.packets.specs.Span.{span_at}
 use Rattle.packet_stream.specs.Pending.{feed}
 use Rattle.packet_stream.proofs.Framing.{Waits}
 use Rattle.calls.specs.declared.Outcome.TheVariants.{Success}
-use Rattle.calls.specs.declared.Status.{Status}
-use Rattle.calls.specs.declared.Status.TheVariants.{Taken, Over, LongFrame, SmallReply, WrongLength}
 use Rattle.calls.specs.Checks.{check_of, is_taken}
 use Rattle.calls.proofs.Laws.{check-taken}
 use Rattle.calls.specs.Saving.{saved_by, name_of, kept_of}
@@ -92,7 +92,7 @@ module _ (w : World) (t : Settings) where
 
   -- what a call with the check x does: fairly made it leaves what holds, it answers as it is checked, refused it changes nothing, and fairly
   -- made it is seen whole by the observer
-  pub record Does (o : Bool) (c : Config) (lent handed : Option (List ℕ)) (x : Status) (m : Made w) : Type 0 where
+  pub record Does (o : Bool) (c : Config) (lent handed : Option (List ℕ)) (x : Result (Unit {0}) Refusal) (m : Made w) : Type 0 where
     pub keeps : Fair lent handed x → Holds o (step_by w c lent m)
     pub answers : status_in w m ≡ x
     pub unmoved : is_taken x ≡ false → (step_by w c lent m ≡ c) × (work_of w m ≡ 0)
@@ -100,7 +100,7 @@ module _ (w : World) (t : Settings) where
 
   -- ---- a call that is refused changes nothing
 
-  same-R : (c : Config) (lent : Option (List ℕ)) (s : Status) (reply : List ℕ) → step_r w c lent (refused_r c.rcv s (lent_or c.area lent) reply) [] ≡ c
+  same-R : (c : Config) (lent : Option (List ℕ)) (s : Result (Unit {0}) Refusal) (reply : List ℕ) → step_r w c lent (refused_r c.rcv s (lent_or c.area lent) reply) [] ≡ c
   same-R c lent s reply =
       rw (
         append-nil c.to_s,
@@ -114,11 +114,11 @@ module _ (w : World) (t : Settings) where
       )
 
   module _ {o : Bool} (c : Config) (h : Holds o c) where
-    refused-S : (lent handed : Option (List ℕ)) (s : Status) (reply : List ℕ) → Does o c lent handed s (by_sender (refused_call c.snd s reply))
+    refused-S : (lent handed : Option (List ℕ)) (s : Result (Unit {0}) Refusal) (reply : List ℕ) → Does o c lent handed s (by_sender (refused_call c.snd s reply))
     refused-S lent handed s reply =
         record { keeps = λ f. rw (append-nil c.to_r) h; answers = refl; unmoved = λ e. (rw (append-nil c.to_r), refl); observed = λ f. tt }
 
-    refused-R : (lent handed : Option (List ℕ)) (s : Status) (reply : List ℕ)
+    refused-R : (lent handed : Option (List ℕ)) (s : Result (Unit {0}) Refusal) (reply : List ℕ)
         → Does o c lent handed s (by_receiver (refused_r c.rcv s (lent_or c.area lent) reply) [])
     unfolding feed
     refused-R lent handed s reply =
@@ -144,7 +144,7 @@ module _ (w : World) (t : Settings) where
         (reads c.rcv.reader chunk).reader (drop taken c.to_r) a (counts chunk)
 
     moved-R : {p : Bool} (chunk : List ℕ) (taken : ℕ) (a : ReceiverMove) (reply : List ℕ) → Arrives p chunk taken a
-        → Holds p (step_r w c none (replied_r c.rcv (reads c.rcv.reader chunk).reader taken a reply) chunk)
+        → Holds p (step_r w c None (replied_r c.rcv (reads c.rcv.reader chunk).reader taken a reply) chunk)
     moved-R chunk taken a reply i =
         let l = name-short w a.saved i.stored.stored.ours in
         let b = saved-back a.saved c.rcv.name h.array l in
@@ -161,43 +161,43 @@ module _ (w : World) (t : Settings) where
 
   -- ---- by the check: a is what the call answers if it is taken
 
-  does-S : {o : Bool} (c : Config) (reply : List ℕ) (lent handed : Option (List ℕ)) (s : Status) {z : Status} (a : Option (List ℕ) → Option (List ℕ) → SenderAfter)
-      → s ≡ z → (a lent handed).answer.status ≡ Taken → Holds o c → Holds o (step_s c (a none none))
+  does-S : {o : Bool} (c : Config) (reply : List ℕ) (lent handed : Option (List ℕ)) (s : Result (Unit {0}) Refusal) {z : Result (Unit {0}) Refusal} (a : Option (List ℕ) → Option (List ℕ) → SenderAfter)
+      → s ≡ z → (a lent handed).answer.status ≡ (Ok tt) → Holds o c → Holds o (step_s c (a None None))
       → Does o c lent handed z (by_sender (unless_refused s c.snd reply (a lent handed)))
   does-S {o} c reply lent handed s a e q h g = rw (← e) (go s)
     where
-      served : (lent handed : Option (List ℕ)) → Fair lent handed Taken → Holds o (step_s c (a lent handed))
+      served : (lent handed : Option (List ℕ)) → Fair lent handed (Ok tt) → Holds o (step_s c (a lent handed))
       served _ _ own = g
       served lent handed (refused x) = absurd (false≢true (sym x))
 
-      go : (s : Status) → Does o c lent handed s (by_sender (unless_refused s c.snd reply (a lent handed)))
-      go Taken = record { keeps = served lent handed; answers = q; unmoved = λ x. absurd (false≢true (sym x)); observed = λ f. tt }
-      go Over = refused-S c h lent handed Over reply
-      go LongFrame = refused-S c h lent handed LongFrame reply
-      go SmallReply = refused-S c h lent handed SmallReply reply
-      go WrongLength = refused-S c h lent handed WrongLength reply
+      go : (s : Result (Unit {0}) Refusal) → Does o c lent handed s (by_sender (unless_refused s c.snd reply (a lent handed)))
+      go (Ok tt) = record { keeps = served lent handed; answers = q; unmoved = λ x. absurd (false≢true (sym x)); observed = λ f. tt }
+      go (Err Over) = refused-S c h lent handed (Err Over) reply
+      go (Err LongFrame) = refused-S c h lent handed (Err LongFrame) reply
+      go (Err SmallReply) = refused-S c h lent handed (Err SmallReply) reply
+      go (Err WrongLength) = refused-S c h lent handed (Err WrongLength) reply
 
   -- chunk is what comes with it, nothing where it is refused
-  does-R : {o : Bool} (c : Config) (reply : List ℕ) (lent handed : Option (List ℕ)) (s : Status) {z : Status}
-      (a : Option (List ℕ) → Option (List ℕ) → ReceiverAfter) (chunk : Option (List ℕ) → Bool → List ℕ) → s ≡ z → (a lent handed).answer.status ≡ Taken
-      → chunk handed false ≡ [] → Holds o c → Holds o (step_r w c none (a none none) (chunk none true)) → Observed w c (by_receiver (a none none) (chunk none true))
+  does-R : {o : Bool} (c : Config) (reply : List ℕ) (lent handed : Option (List ℕ)) (s : Result (Unit {0}) Refusal) {z : Result (Unit {0}) Refusal}
+      (a : Option (List ℕ) → Option (List ℕ) → ReceiverAfter) (chunk : Option (List ℕ) → Bool → List ℕ) → s ≡ z → (a lent handed).answer.status ≡ (Ok tt)
+      → chunk handed false ≡ [] → Holds o c → Holds o (step_r w c None (a None None) (chunk None true)) → Observed w c (by_receiver (a None None) (chunk None true))
       → Does o c lent handed z (by_receiver (unless_r s c.rcv (lent_or c.area lent) reply (a lent handed)) (chunk handed (is_taken z)))
   does-R {o} c reply lent handed s a chunk e q y h g p = rw (← e) (go s)
     where
-      served : (lent handed : Option (List ℕ)) → Fair lent handed Taken → Holds o (step_r w c lent (a lent handed) (chunk handed true))
+      served : (lent handed : Option (List ℕ)) → Fair lent handed (Ok tt) → Holds o (step_r w c lent (a lent handed) (chunk handed true))
       served _ _ own = g
       served lent handed (refused x) = absurd (false≢true (sym x))
 
-      whole : (lent handed : Option (List ℕ)) → Fair lent handed Taken → Observed w c (by_receiver (a lent handed) (chunk handed true))
+      whole : (lent handed : Option (List ℕ)) → Fair lent handed (Ok tt) → Observed w c (by_receiver (a lent handed) (chunk handed true))
       whole _ _ own = p
       whole lent handed (refused x) = absurd (false≢true (sym x))
 
-      go : (s : Status) → Does o c lent handed s (by_receiver (unless_r s c.rcv (lent_or c.area lent) reply (a lent handed)) (chunk handed (is_taken s)))
-      go Taken = record { keeps = served lent handed; answers = q; unmoved = λ x. absurd (false≢true (sym x)); observed = whole lent handed }
-      go Over = rw y (refused-R c h lent handed Over reply)
-      go LongFrame = rw y (refused-R c h lent handed LongFrame reply)
-      go SmallReply = rw y (refused-R c h lent handed SmallReply reply)
-      go WrongLength = rw y (refused-R c h lent handed WrongLength reply)
+      go : (s : Result (Unit {0}) Refusal) → Does o c lent handed s (by_receiver (unless_r s c.rcv (lent_or c.area lent) reply (a lent handed)) (chunk handed (is_taken s)))
+      go (Ok tt) = record { keeps = served lent handed; answers = q; unmoved = λ x. absurd (false≢true (sym x)); observed = whole lent handed }
+      go (Err Over) = rw y (refused-R c h lent handed (Err Over) reply)
+      go (Err LongFrame) = rw y (refused-R c h lent handed (Err LongFrame) reply)
+      go (Err SmallReply) = rw y (refused-R c h lent handed (Err SmallReply) reply)
+      go (Err WrongLength) = rw y (refused-R c h lent handed (Err WrongLength) reply)
 
   -- the status of a call is document 01's check
   pub status-S : {o : Bool} (c : Config) → Holds o c → (reply : List ℕ) (lent : Option (List ℕ))
@@ -247,19 +247,19 @@ module _ (w : World) (t : Settings) where
   hands_none x taken = []
 
   module _ {o : Bool} (c : Config) (h : Holds o c) where
-    leaves-S : (reply : List ℕ) → Holds o (step_s c (leaves_s c reply none none))
+    leaves-S : (reply : List ℕ) → Holds o (step_s c (leaves_s c reply None None))
     leaves-S reply = rw h.sender_settings (moved-S c h c.snd.reader 0 nowhere _ reply (wire-leaves w t _ _ _ _ _ _ _ h.inv))
 
-    hears-S : (n : ℕ) (reply : List ℕ) → Holds o (step_s c (hears_s c n reply none none))
+    hears-S : (n : ℕ) (reply : List ℕ) → Holds o (step_s c (hears_s c n reply None None))
     hears-S n reply =
         let g = reads c.snd.reader (take n c.to_s) in
         rw h.sender_settings
         (moved-S c h g.reader g.taken (shown_in c.snd.core.state (heard g) g) _ reply (wire-heard w t _ _ _ _ _ _ _ n h.inv))
 
-    times-S : (reply : List ℕ) → Holds false (step_s c (times_s c reply none none))
+    times-S : (reply : List ℕ) → Holds false (step_s c (times_s c reply None None))
     times-S reply = moved-S c h c.snd.reader 0 nowhere _ reply (wire-times w t _ _ _ _ _ _ _ h.inv)
 
-    stops-S : (reply : List ℕ) → Holds false (step_s c (stops_s c reply none none))
+    stops-S : (reply : List ℕ) → Holds false (step_s c (stops_s c reply None None))
     stops-S reply = moved-S c h c.snd.reader 0 nowhere _ reply (wire-stops w t _ _ _ _ _ _ _ h.inv)
 
     came-R : (n : ℕ)
@@ -320,14 +320,14 @@ module _ (w : World) (t : Settings) where
     own-length true = refl
     own-length false = h.kept.room
 
-    pub check_takes : (act : Act) (reply : List ℕ) → ended_at w act c ≡ false → 259 ≤ length reply → checked w act c reply none ≡ Taken
+    pub check_takes : (act : Act) (reply : List ℕ) → ended_at w act c ≡ false → 259 ≤ length reply → checked w act c reply None ≡ (Ok tt)
     check_takes act reply e l = check-taken (length reply) 0 (length (own_at w act c)) (given_to w act) e l (omega arith) (own-length (at_sender act))
 
   serves : (c : Config) → Holds false c → Serves w c
   serves c h = record {
     as_checked = λ k. (any_step c h k.act k.reply k.lent k.handed).answers;
     refused = λ k. (any_step c h k.act k.reply k.lent k.handed).unmoved;
-    taken = λ act reply e l. (any_step c h act reply none none).answers ∙ check_takes c h act reply e l;
+    taken = λ act reply e l. (any_step c h act reply None None).answers ∙ check_takes c h act reply e l;
     observed = λ k. (any_step c h k.act k.reply k.lent k.handed).observed;
   }
 
@@ -369,15 +369,15 @@ module _ (w : World) (t : Settings) where
   sender-begins = rw (w.named, le-leb (length w.file) 99999999 w.size, le-leb 1 t.block t.block_some, le-leb t.block 256 t.block_most)
 
   module _ (room : ℕ) (checks : Bool) (enough : length w.file ≤ room) where
-    with-ours : (v : Saved) → Ours w v → with_saved room true checks v ≡ receiver_with R room true checks (some v)
+    with-ours : (v : Saved) → Ours w v → with_saved room true checks v ≡ receiver_with R room true checks (Some v)
     unfolding with_saved
     with-ours v q = rw (le-leb v.kept v.size (omega (arith, q.kept, q.size)), le-leb v.size room (omega (arith, q.size)))
 
-    receiver-begins : (v : Option Saved) → ((u : Saved) → v ≡ some u → Ours w u)
+    receiver-begins : (v : Option Saved) → ((u : Saved) → v ≡ Some u → Ours w u)
         → receiver_by room checks (saved_bytes (form_by v)) ≡ receiver_with R room true checks v
     unfolding fresh resume
-    receiver-begins none o = refl
-    receiver-begins (some v) o =
+    receiver-begins None o = refl
+    receiver-begins (Some v) o =
         let q = o v refl in
         let b = ours-back w v q in
         ap (receiver_by room checks) (ours-bytes w v q) ∙ ap (resume_by room true checks (record_bytes v)) b.1

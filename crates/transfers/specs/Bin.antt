@@ -1,13 +1,11 @@
 -- A session by extended #BIN#: two fresh ends, the frames on the way between them, and calls.
-use Rattle.std.specs.Prelude.{ℕ, ◌+◌, ◌-◌, ◌≤◌, ◌≡◌, Bool, true, false, List, [], ◌∷◌, ◌++◌, ◌⊎◌, length, take}
-use Rattle.std.proofs.Math.Option.{Option, none, some}
+use Rattle.calls.specs.declared.Refusal.{Refusal}
+use Rattle.std.specs.Prelude.{ℕ, ◌+◌, ◌-◌, ◌≤◌, ◌≡◌, Bool, true, false, List, [], ◌∷◌, ◌++◌, ◌⊎◌, length, take, None, Ok, Option, Result, Some}
 use Rattle.fields.specs.Pick.{pick}
 use Rattle.fields.specs.Lists.{same}
 use Rattle.lines.specs.Frame.{starts, ok_mark, display_mark, stop_frame}
 use Rattle.crc.specs.declared.Reading.{Reading}
 use Rattle.calls.specs.declared.Outcome.TheVariants.{Success}
-use Rattle.calls.specs.declared.Status.{Status}
-use Rattle.calls.specs.declared.Status.TheVariants.{Taken}
 use Rattle.calls.specs.Checks.{check_of, is_taken}
 use Rattle.bin_sender.specs.declared.Sender.{Sender}
 use Rattle.bin.specs.declared.SenderState.TheVariants.{Ended as SEnded}
@@ -44,8 +42,8 @@ pub record Config : Type 0 where
 
 -- the receiver begins from the record's bytes that the session before left
 abbrev pub receiver_by : ℕ → Reading → Option (List ℕ) → Receiver
-receiver_by room reading none = fresh room true reading
-receiver_by room reading (some b) = resume b room true reading
+receiver_by room reading None = fresh room true reading
+receiver_by room reading (Some b) = resume b room true reading
 
 -- "begun with two fresh ends, nothing on the way, and the area and record the one before left"; resume is allowed at both ends
 abbrev pub begins : World → Settings → Left → Config
@@ -75,7 +73,7 @@ behind_front [] = []
 behind_front (f ∷ l) = l
 
 -- the front frame leaves the way when its call is taken
-abbrev pub left_by : Status → List (List ℕ) → List (List ℕ)
+abbrev pub left_by : Result (Unit {0}) Refusal → List (List ℕ) → List (List ℕ)
 left_by s l = pick (is_taken s) (behind_front l) l
 
 -- a line counts as accepted once an OK is sent
@@ -87,7 +85,7 @@ abbrev pub file_in : Bool → List ℕ → ℕ
 file_in accepted f = pick accepted (pick (starts display_mark f) 0 (pick (same stop_frame f) 0 (length f))) 0
 
 -- with a call that is refused none come
-abbrev pub came_by : Status → Bool → List ℕ → ℕ
+abbrev pub came_by : Result (Unit {0}) Refusal → Bool → List ℕ → ℕ
 came_by s accepted f = pick (is_taken s) (file_in accepted f) 0
 
 -- l is what is left on the way to the end that was called
@@ -139,7 +137,7 @@ module _ (w : World) where
   frame_at cancel_r c handed = []
 
   -- document 01's check of a call
-  abbrev pub checked : Act → Config → List ℕ → Option (List ℕ) → Option (List ℕ) → Status
+  abbrev pub checked : Act → Config → List ℕ → Option (List ℕ) → Option (List ℕ) → Result (Unit {0}) Refusal
   checked a c reply lent handed =
       check_of (ended_at a c) (length reply) (length (frame_at a c handed)) (length (lent_or (own_at a c) lent)) (given_to a)
 
@@ -202,7 +200,7 @@ module _ (w : World) where
   work_of c (by_receiver a l n) = length (joins [] (take a.answer.sent a.reply)) + (length c.to_r - length l)
 
   abbrev pub work_in : Act → Config → List ℕ → ℕ
-  work_in a c reply = work_of c (made a c reply none none)
+  work_in a c reply = work_of c (made a c reply None None)
 
   abbrev pub work : List Call → Config → ℕ
   work [] c = 0
@@ -217,7 +215,7 @@ module _ (w : World) where
         → work_in (receive_s n) c reply ≡ 0 → work_in (receive_r n) c reply ≡ 0 → Quiet c
 
   -- the status that a call answers with
-  abbrev pub status_in : Made → Status
+  abbrev pub status_in : Made → Result (Unit {0}) Refusal
   status_in (by_sender a l) = a.answer.status
   status_in (by_receiver a l n) = a.answer.status
 
@@ -227,7 +225,7 @@ module _ (w : World) where
     pub as_checked : (k : Call) → status_in (made k.act c k.reply k.lent k.handed) ≡ checked k.act c k.reply k.lent k.handed
     pub refused : (k : Call) → is_taken (checked k.act c k.reply k.lent k.handed) ≡ false
         → (step k c ≡ c) × (work_of c (made k.act c k.reply k.lent k.handed) ≡ 0)
-    pub taken : (a : Act) (reply : List ℕ) → ended_at a c ≡ false → 259 ≤ length reply → status_in (made a c reply none none) ≡ Taken
+    pub taken : (a : Act) (reply : List ℕ) → ended_at a c ≡ false → 259 ≤ length reply → status_in (made a c reply None None) ≡ (Ok tt)
 
 abbrev pub leaves : Config → Left
 leaves c = record { area = c.area; saved = saved_bytes (record_by c.rcv); tally = c.tally; laid = c.laid }

@@ -1,8 +1,7 @@
 -- A session by YAPP: two fresh ends, the bytes on the way between them, and calls.
-use Rattle.std.specs.Prelude.{ℕ, ◌+◌, ◌-◌, ◌≤◌, ◌≡◌, Bool, true, false, List, [], ◌∷◌, ◌++◌, ◌⊎◌, length, take, drop, eqb}
-use Rattle.std.proofs.Math.Option.{Option, none, some}
+use Rattle.calls.specs.declared.Refusal.{Refusal}
+use Rattle.std.specs.Prelude.{ℕ, ◌+◌, ◌-◌, ◌≤◌, ◌≡◌, Bool, true, false, List, [], ◌∷◌, ◌++◌, ◌⊎◌, length, take, drop, eqb, None, Ok, Option, Result, Some}
 use Rattle.fields.specs.Pick.{pick}
-use Rattle.fields.specs.declared.Stamp.{Stamp}
 use Rattle.packets.specs.Packet.{packet_of}
 use Rattle.packets.specs.Content.{Content, content_of, stamp_fits}
 use Rattle.packets.specs.Kind.{RF, RT, RE, Unfinished, kind_of, look}
@@ -12,8 +11,6 @@ use Rattle.packets.specs.Span.{span}
 use Rattle.packet_stream.specs.declared.Reader.{Reader}
 use Rattle.packet_stream.specs.Reader.{fresh as fresh_reader, checking, receive as reads}
 use Rattle.calls.specs.declared.Outcome.TheVariants.{Success}
-use Rattle.calls.specs.declared.Status.{Status}
-use Rattle.calls.specs.declared.Status.TheVariants.{Taken}
 use Rattle.calls.specs.Checks.{check_of, is_taken}
 use Rattle.yapp_sender.specs.declared.Sender.{Sender}
 use Rattle.yapp.specs.declared.SenderState.TheVariants.{Ended as SEnded}
@@ -32,7 +29,7 @@ pub record Settings : Type 0 where
   pub block : ℕ
   pub block_some : 1 ≤ block
   pub block_most : block ≤ 256
-  pub stamp : Stamp
+  pub stamp : Option ℕ
   pub stamp_in_range : stamp_fits stamp ≡ true
   pub checks : Bool
 
@@ -56,8 +53,8 @@ pub record Config : Type 0 where
 
 -- the receiver begins from the record's bytes that the session before left
 abbrev pub receiver_by : ℕ → Bool → Option (List ℕ) → Receiver
-receiver_by room checks none = fresh room true checks
-receiver_by room checks (some b) = resume b room true checks
+receiver_by room checks None = fresh room true checks
+receiver_by room checks (Some b) = resume b room true checks
 
 -- "begun with two fresh ends, nothing on the way, and the area and record the one before left"; resume is allowed at both ends
 abbrev pub begins : World → Settings → Left → Config
@@ -149,7 +146,7 @@ module _ (w : World) where
   given_to a = pick (at_sender a) (length w.file) (length w.area)
 
   -- document 01's check of a call; 19 is for frames
-  abbrev pub checked : Act → Config → List ℕ → Option (List ℕ) → Status
+  abbrev pub checked : Act → Config → List ℕ → Option (List ℕ) → Result (Unit {0}) Refusal
   checked a c reply lent = check_of (ended_at a c) (length reply) 0 (length (lent_or (own_at a c) lent)) (given_to a)
 
   -- what a call answers and leaves; at the receiver, what came with it: nothing, where it is refused
@@ -208,7 +205,7 @@ module _ (w : World) where
   work_of (by_receiver a chunk) = a.answer.sent + a.answer.taken
 
   abbrev pub work_in : Act → Config → List ℕ → ℕ
-  work_in a c reply = work_of (made a c reply none none)
+  work_in a c reply = work_of (made a c reply None None)
 
   abbrev pub work : List Call → Config → ℕ
   work [] c = 0
@@ -223,7 +220,7 @@ module _ (w : World) where
         → work_in (receive_s n) c reply ≡ 0 → work_in (receive_r n) c reply ≡ 0 → Quiet c
 
   -- the status that a call answers with
-  abbrev pub status_in : Made → Status
+  abbrev pub status_in : Made → Result (Unit {0}) Refusal
   status_in (by_sender a) = a.answer.status
   status_in (by_receiver a chunk) = a.answer.status
 
@@ -238,7 +235,7 @@ module _ (w : World) where
     pub as_checked : (k : Call) → status_in (made k.act c k.reply k.lent k.handed) ≡ checked k.act c k.reply k.lent
     pub refused : (k : Call) → is_taken (checked k.act c k.reply k.lent) ≡ false
         → (step k c ≡ c) × (work_of (made k.act c k.reply k.lent k.handed) ≡ 0)
-    pub taken : (a : Act) (reply : List ℕ) → ended_at a c ≡ false → 259 ≤ length reply → status_in (made a c reply none none) ≡ Taken
+    pub taken : (a : Act) (reply : List ℕ) → ended_at a c ≡ false → 259 ≤ length reply → status_in (made a c reply None None) ≡ (Ok tt)
     pub observed : (k : Call) → Fair k.lent k.handed (checked k.act c k.reply k.lent)
         → Observed c (made k.act c k.reply k.lent k.handed)
 

@@ -3,14 +3,13 @@
 -- Assumes nothing.
 use mathlib.Core.Path.{◌≡◌, refl, ap, sym, ◌∙◌}
 use mathlib.Core.Bool.{true, false}
-use mathlib.Core.List.{List, [], ◌∷◌, ◌++◌}
+use mathlib.Core.List.{List, [], ◌∷◌}
 use mathlib.Core.Logic.{⊎_elim}
-use Prim.Native.Nat.{ℕ, zero, suc, ◌+◌, ◌*◌, ◌≤◌, ◌<◌}
+use Prim.Native.Nat.{ℕ, zero, suc, ◌+◌, ◌≤◌, ◌<◌}
 use native.Mathlib.Nat.{add-zero, zero-add, add-suc, suc-add, le_of_suc-le-suc, not-suc-le-zero}
 use native.Mathlib.Omega.{arith}
 use lib.Dec.{ltb, eqb}
-use lib.ListN.{get_or, take, drop}
-use lib.Seq.{get_or-drop, get_or-take}
+use lib.ListN.{get_or}
 use borrow.Author.Tests.{ne_eqb, ltb-true, lt-ltb, le-ltb}
 use Rattle.fields.proofs.Lists.{le-or-lt}
 use Rattle.packets.specs.Kind.{RR, RF, AF, CA, RT, SI, RI, HD, DT, EF, ET, NR, RE, CN, TX, BadHD, Unreadable, Unfinished, look}
@@ -27,21 +26,21 @@ unfoldable pub numbers_from : (ℕ → Action) → ℕ → ℕ → List ℕ
 numbers_from f k zero = []
 numbers_from f k (suc n) = action_number (f k) ∷ numbers_from f (suc k) n
 
--- rows one after the other, each over all kinds
-unfoldable pub table : List (ℕ → Action) → List ℕ
+-- rows, each over all kinds
+unfoldable pub table : List (ℕ → Action) → List (List ℕ)
 table [] = []
-table (f ∷ l) = numbers_from f 0 kinds ++ table l
+table (f ∷ l) = numbers_from f 0 kinds ∷ table l
 
 -- an end that has ended does nothing
 abbrev row_ended : ℕ → Action
 row_ended k = nothing
 
 -- S, SH, SD, SE, ST, CW, ended
-unfoldable pub send_table : List ℕ
+unfoldable pub send_table : List (List ℕ)
 send_table = table (row_s ∷ row_sh ∷ row_sd ∷ row_se ∷ row_st ∷ row_cw ∷ row_ended ∷ [])
 
 -- R, RH without a file, RH with a file, RD, CW, ended
-unfoldable pub receive_table : List ℕ
+unfoldable pub receive_table : List (List ℕ)
 receive_table = table (row_r ∷ row_rh ∷ row_second ∷ row_rd ∷ row_cw ∷ row_ended ∷ [])
 
 -- what stands at k in a row
@@ -52,25 +51,19 @@ numbers-at f i (suc n) zero h = ap (λ (m : ℕ). action_number (f m)) (sym (add
 numbers-at f i (suc n) (suc k) h =
     numbers-at f (suc i) n k (le_of_suc-le-suc h) ∙ ap (λ (m : ℕ). action_number (f m)) (suc-add i k ∙ sym (add-suc i k))
 
--- what a table has in row n for the number k, if that row is f's
-entry_at : (t : List ℕ) (f : ℕ → Action) (n k : ℕ) → take kinds (drop (n * kinds) t) ≡ numbers_from f 0 kinds → (kinds ≤ k → f Unreadable ≡ f k)
-    → get_or t (n * kinds + column_of k) 0 ≡ action_number (f k)
-entry_at t f n k e other =
+-- what a row has for the number k
+row_at : (f : ℕ → Action) (k : ℕ) → (kinds ≤ k → f Unreadable ≡ f k) → get_or (numbers_from f 0 kinds) (column_of k) 0 ≡ action_number (f k)
+row_at f k other =
     ⊎_elim
     (λ (h : kinds ≤ k). rw (le-ltb k kinds h) (column Unreadable (omega arith) ∙ ap action_number (other h)))
     (λ (h : k < kinds). rw (lt-ltb k kinds h) (column k h))
     (le-or-lt kinds k)
   where
-    column : (j : ℕ) → j < kinds → get_or t (n * kinds + j) 0 ≡ action_number (f j)
-    column j h =
-        sym (get_or-drop (n * kinds) t j 0)
-        ∙ sym (get_or-take kinds (drop (n * kinds) t) j 0 h)
-        ∙ ap (λ (l : List ℕ). get_or l j 0) e
-        ∙ numbers-at f 0 kinds j h
-        ∙ ap (λ (m : ℕ). action_number (f m)) (zero-add j)
+    column : (j : ℕ) → j < kinds → get_or (numbers_from f 0 kinds) j 0 ≡ action_number (f j)
+    column j h = numbers-at f 0 kinds j h ∙ ap (λ (m : ℕ). action_number (f m)) (zero-add j)
 
 -- a state's row of each table
-send-row : (s : SenderState) → take kinds (drop (sender_number s * kinds) send_table) ≡ numbers_from (sender_row s) 0 kinds
+send-row : (s : SenderState) → get_or send_table (sender_number s) [] ≡ numbers_from (sender_row s) 0 kinds
 unfolding send_table table numbers_from sender_number sender_row
 send-row (S begun timeouts) = refl
 send-row SH = refl
@@ -80,7 +73,7 @@ send-row ST = refl
 send-row (CW o) = refl
 send-row (Ended o) = refl
 
-receive-row : (s : ReceiverState) → take kinds (drop (receiver_number s * kinds) receive_table) ≡ numbers_from (receiver_row s) 0 kinds
+receive-row : (s : ReceiverState) → get_or receive_table (receiver_number s) [] ≡ numbers_from (receiver_row s) 0 kinds
 unfolding receive_table table numbers_from receiver_number receiver_row
 receive-row R = refl
 receive-row (RH false) = refl
@@ -114,10 +107,10 @@ module _ (k : ℕ) (h : kinds ≤ k) where
   receiver-other (REnded o) = refl
 
 -- the entries are what the rows give, for every number
-pub send_at : (s : SenderState) (k n c : ℕ) → n ≡ sender_number s → c ≡ column_of k → get_or send_table (n * kinds + c) 0 ≡ action_number (sender_row s k)
-send_at s k n c en ec = rw (en, ec) (entry_at send_table (sender_row s) (sender_number s) k (send-row s) (λ h. sender-other k h s))
+pub send_at : (s : SenderState) (k n c : ℕ) → n ≡ sender_number s → c ≡ column_of k
+    → get_or (get_or send_table n []) c 0 ≡ action_number (sender_row s k)
+send_at s k n c en ec = rw (en, ec, send-row s) (row_at (sender_row s) k (λ h. sender-other k h s))
 
 pub receive-at : (s : ReceiverState) (k n c : ℕ) → n ≡ receiver_number s → c ≡ column_of k
-    → get_or receive_table (n * kinds + c) 0 ≡ action_number (receiver_row s k)
-receive-at s k n c en ec =
-    rw (en, ec) (entry_at receive_table (receiver_row s) (receiver_number s) k (receive-row s) (λ h. receiver-other k h s))
+    → get_or (get_or receive_table n []) c 0 ≡ action_number (receiver_row s k)
+receive-at s k n c en ec = rw (en, ec, receive-row s) (row_at (receiver_row s) k (λ h. receiver-other k h s))

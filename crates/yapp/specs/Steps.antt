@@ -1,10 +1,8 @@
 -- What the two ends do, over packets with their bytes. (Document 01, "Steps of YAPP".)
-use Rattle.std.specs.Prelude.{ℕ, ◌+◌, ◌-◌, Bool, true, false, ◌&&◌, List, [], ◌∷◌, ◌++◌, length, take, drop, ltb, leb, eqb}
-use Rattle.std.proofs.Math.Option.{Option, none, some}
+use Rattle.std.specs.Prelude.{ℕ, ◌+◌, ◌-◌, Bool, true, false, ◌&&◌, List, [], ◌∷◌, ◌++◌, length, take, drop, ltb, leb, eqb, None, Option, Some}
 use Rattle.fields.specs.Pick.{pick}
 use Rattle.fields.specs.Lists.{same}
 use Rattle.fields.specs.Buffer.{appended}
-use Rattle.fields.specs.declared.Stamp.{Stamp}
 use Rattle.packets.specs.Content.{Content, rr, rf, af, at, ca, rt, si, ef, et, nr, cn, hd, dt, re, form_of}
 use Rattle.packets.specs.Kind.{kind_of}
 use Rattle.packets.specs.Data.{on_header, on_block, on_resume, fault_of}
@@ -34,7 +32,7 @@ pub record SenderSettings : Type 0 where
   pub name : List ℕ
   pub size : ℕ
   pub block : ℕ
-  pub stamp : Stamp
+  pub stamp : Option ℕ
   pub resumes : Bool
 
 -- where a sender goes: its state, whether it is in YappC, what it sends
@@ -173,16 +171,16 @@ refuses r a o text = goes r a (REnded o) (nr text ∷ [])
 
 -- the header is accepted: the record is the header's, with so many bytes kept
 abbrev pub accepts : List ℕ → Bool → Saved → Content → ReceiverMove
-accepts a k v reply = record { state = RD; checked = k; saved = some v; area = a; out = reply ∷ []; stored = 0 }
+accepts a k v reply = record { state = RD; checked = k; saved = Some v; area = a; out = reply ∷ []; stored = 0 }
 
 -- with no record the reply is RT if checksums are wanted and the header had a stamp, else RF. If a record matches, the position is kept
 -- bytes less 256, never under 0; the kept count becomes the position, and RE carries it, with `C` if checksums are wanted
-unfoldable pub judge_record : ReceiverSettings → ReceiverNow → List ℕ → List ℕ → ℕ → Stamp → Option Saved → ReceiverMove
-judge_record t r a name size stamp none =
+unfoldable pub judge_record : ReceiverSettings → ReceiverNow → List ℕ → List ℕ → ℕ → Option ℕ → Option Saved → ReceiverMove
+judge_record t r a name size stamp None =
     pick (t.checks && is_present stamp)
     (accepts a true (record { size = size; kept = 0; stamp = stamp; name = name }) rt)
     (accepts a false (record { size = size; kept = 0; stamp = stamp; name = name }) rf)
-judge_record t r a name size stamp (some v) =
+judge_record t r a name size stamp (Some v) =
     pick t.resumes
     (pick (same v.name name && eqb v.size size)
     (accepts a t.checks (record { size = size; kept = v.kept - 256; stamp = stamp; name = name }) (re (v.kept - 256) t.checks))
@@ -190,7 +188,7 @@ judge_record t r a name size stamp (some v) =
     (refuses r a HaveFile have_text)
 
 -- a header is judged: size over the area (8), a record with resume off (9), a record whose name or announced size differs (10)
-unfoldable pub judges : ReceiverSettings → ReceiverNow → List ℕ → List ℕ → ℕ → Stamp → ReceiverMove
+unfoldable pub judges : ReceiverSettings → ReceiverNow → List ℕ → List ℕ → ℕ → Option ℕ → ReceiverMove
 judges t r a name size stamp = pick (leb size t.room) (judge_record t r a name size stamp r.saved) (refuses r a NoRoom room_text)
 
 -- a DT's data are stored directly behind the kept bytes and count as kept in the same step; a bad checksum aborts (11, judged first), a

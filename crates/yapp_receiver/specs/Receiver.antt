@@ -1,20 +1,17 @@
 -- The receiver: its beginnings, and what each call answers and leaves. (Document 01, "Steps of YAPP", "The saved record", "Numbers that
 -- refuse or end".)
-use Rattle.std.specs.Prelude.{ℕ, Bool, false, List, length, replicate}
-use Rattle.std.proofs.Math.Option.{Option, none, some}
+use Rattle.calls.specs.declared.Refusal.{Refusal}
+use Rattle.records.specs.declared.Record.{Record}
+use Rattle.std.specs.Prelude.{ℕ, Bool, false, List, length, replicate, None, Ok, Option, Result, Some}
 use Rattle.fields.specs.Pick.{pick}
 use Rattle.fields.specs.Buffer.{Form, over, appended}
 use Rattle.packets.specs.Content.{content_of}
 use Rattle.packet_stream.specs.declared.Reader.{Reader}
 use Rattle.packet_stream.specs.declared.Received.{Received}
 use Rattle.packet_stream.specs.Reader.{fresh as fresh_reader, checking, receive as reads}
-use Rattle.records.specs.declared.RecordRead.{RecordRead}
-use Rattle.records.specs.declared.RecordRead.TheVariants.{Good, Unreadable}
 use Rattle.records.specs.Record.{record_of}
 use Rattle.records.specs.Saved.{Saved, saved_of}
 use Rattle.calls.specs.declared.Outcome.TheVariants.{RecordUnreadable, RecordOver}
-use Rattle.calls.specs.declared.Status.{Status}
-use Rattle.calls.specs.declared.Status.TheVariants.{Taken}
 use Rattle.calls.specs.Checks.{check_of, unless}
 use Rattle.calls.specs.Saving.{saved_by, keeping_of, name_of, is_within, form_by}
 use Rattle.yapp.specs.declared.ReceiverState.{ReceiverState}
@@ -36,17 +33,17 @@ receiver_with st room resumes checks v = record {
 
 -- with no record
 unfoldable pub fresh : ℕ → Bool → Bool → Receiver
-fresh room resumes checks = receiver_with R room resumes checks none
+fresh room resumes checks = receiver_with R room resumes checks None
 
 -- kept over size, or size over area (2)
 unfoldable pub with_saved : ℕ → Bool → Bool → Saved → Receiver
 with_saved room resumes checks v =
-    pick (is_within v.kept v.size room) (receiver_with R room resumes checks (some v))
-    (receiver_with (Ended RecordOver) room resumes checks none)
+    pick (is_within v.kept v.size room) (receiver_with R room resumes checks (Some v))
+    (receiver_with (Ended RecordOver) room resumes checks None)
 
-abbrev pub resume_by : ℕ → Bool → Bool → List ℕ → RecordRead → Receiver
-resume_by room resumes checks b (Good r) = with_saved room resumes checks (saved_of b r)
-resume_by room resumes checks b Unreadable = receiver_with (Ended RecordUnreadable) room resumes checks none
+abbrev pub resume_by : ℕ → Bool → Bool → List ℕ → Option Record → Receiver
+resume_by room resumes checks b (Some r) = with_saved room resumes checks (saved_of b r)
+resume_by room resumes checks b None = receiver_with (Ended RecordUnreadable) room resumes checks None
 
 -- from a record's bytes; one that is unreadable is 1
 unfoldable pub resume : List ℕ → ℕ → Bool → Bool → Receiver
@@ -75,7 +72,7 @@ abbrev pub now_of : Receiver → ReceiverNow
 now_of m = now_by m.core m.reader.checked m.name
 
 -- a refused call changes nothing anywhere
-abbrev pub refused_call : Receiver → Status → List ℕ → List ℕ → ReceiverAfter
+abbrev pub refused_call : Receiver → Result (Unit {0}) Refusal → List ℕ → List ℕ → ReceiverAfter
 refused_call m s area reply =
     record { answer = record { receiver = m; status = s; taken = 0; sent = 0; stored = 0 }; area = area; reply = reply }
 
@@ -97,7 +94,7 @@ abbrev pub replied : Receiver → Reader → ℕ → ReceiverMove → List ℕ �
 replied m r taken a reply = record {
   answer = record {
     receiver = moved m r a;
-    status = Taken;
+    status = (Ok tt);
     taken = taken;
     sent = length (writes a.checked a.out);
     stored = a.stored;
@@ -106,11 +103,11 @@ replied m r taken a reply = record {
   reply = over 0 (writes a.checked a.out) reply;
 }
 
-abbrev pub status_of : Receiver → List ℕ → List ℕ → Status
+abbrev pub status_of : Receiver → List ℕ → List ℕ → Result (Unit {0}) Refusal
 status_of m area reply = check_of (receiver_ended m.core.state) (length reply) 0 (length area) m.core.room
 
-abbrev pub unless_refused : Status → Receiver → List ℕ → List ℕ → ReceiverAfter → ReceiverAfter
-unless_refused s m area reply after = unless s (λ (x : Status). refused_call m x area reply) after
+abbrev pub unless_refused : Result (Unit {0}) Refusal → Receiver → List ℕ → List ℕ → ReceiverAfter → ReceiverAfter
+unless_refused s m area reply after = unless s (λ (x : Result (Unit {0}) Refusal). refused_call m x area reply) after
 
 -- leave changes nothing
 unfoldable pub transmit : Receiver → List ℕ → List ℕ → ReceiverAfter

@@ -1,15 +1,14 @@
 -- Only contracts of private functions cite this.
 -- What a step of the code is in the definitions of `yapp`: a move of the receiver, its record as the struct holds it and a new name by its
 -- place in the pending bytes.
-use Rattle.std.specs.Prelude.{ℕ, Bool, true, false, List, [], ◌∷◌, ◌++◌}
+use Rattle.calls.specs.declared.Entry.{Entry}
+use Rattle.std.specs.Prelude.{ℕ, Bool, List, [], ◌∷◌, ◌++◌, None, Option, Some}
+use Rattle.fields.specs.declared.Place.{Place}
 use Rattle.fields.specs.Lists.{bytes_at}
 use Rattle.fields.specs.Buffer.{appended}
 use Rattle.packets.specs.Content.{Content, rr, rf, af, at, ca, rt, nr, cn, re}
-use Rattle.calls.specs.declared.Keeping.{Keeping}
-use Rattle.calls.specs.declared.Keeping.TheVariants.{Nothing, Of}
 use Rattle.calls.specs.Saving.{keeping_of, name_of}
 use Rattle.yapp.specs.declared.ReceiverState.{ReceiverState}
-use Rattle.yapp.specs.declared.ReceiverState.TheVariants.{R, RH, RD, CW, Ended}
 use Rattle.yapp.specs.Steps.{ReceiverMove, room_text, have_text, differs_text, one_text}
 use Rattle.yapp_receiver.specs.declared.step.Step.{Step}
 use Rattle.yapp_receiver.specs.declared.step.Out.{Out}
@@ -39,7 +38,7 @@ contents_of checked One = nr one_text ∷ []
 pub record Reached : Type 0 where
   pub state : ReceiverState
   pub checked : Bool
-  pub keeping : Keeping
+  pub keeping : Option Entry
   pub name : List ℕ
   pub area : List ℕ
   pub out : List Content
@@ -56,27 +55,24 @@ reached name a = record {
   stored = a.stored;
 }
 
+-- the array with a name laid over its front, if there is a new one, which stands at a place in the pending bytes p
+abbrev pub named_by : List ℕ → Option Place → List ℕ → List ℕ
+named_by p None name = name
+named_by p (Some place) name = appended 0 (bytes_at p place) name
+
 -- what a step leaves, with the pending bytes p and the area a
 abbrev pub reached_by : List ℕ → List ℕ → Step → List ℕ → Reached
 reached_by p name s a = record {
   state = s.state;
   checked = s.checked;
   keeping = s.keeping;
-  name = appended 0 (bytes_at p s.name) name;
+  name = named_by p s.name name;
   area = a;
   out = contents_of s.checked s.out;
   stored = s.stored;
 }
 
 -- the record with another kept count
-abbrev pub kept_at : Keeping → ℕ → Keeping
-kept_at Nothing n = Nothing
-kept_at (Of e) n = Of (record { named = e.named; size = e.size; kept = n; stamp = e.stamp })
-
--- neither in CW nor ended
-abbrev pub is_open : ReceiverState → Bool
-is_open R = true
-is_open (RH whole) = true
-is_open RD = true
-is_open (CW o) = false
-is_open (Ended o) = false
+abbrev pub kept_at : Option Entry → ℕ → Option Entry
+kept_at None n = None
+kept_at (Some e) n = Some (record { named = e.named; size = e.size; kept = n; stamp = e.stamp })

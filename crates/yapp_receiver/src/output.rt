@@ -9,7 +9,11 @@ use crate::step::Out;
 use fields::Place;
 use packets::{Packet, Resume};
 
+// One text for the four that an NR has: a place in it says which, and no packet holds bytes of its own.
+const TEXTS: &[u8] = b"roomhavediffersone";
+
 // The packet that is sent, its text at a place in `texts`; an unfinished one, which has no form, where nothing is sent.
+#[tactic(auto, using(crate::proofs::output::Laws::one), unfolding(packets::specs::Content::content_of, packets::specs::Content::form_of, yapp::specs::Steps::writes))]
 fn packet_of(out: Out, checked: bool) -> Packet
     ensures { bytes_in (form_of checked (content_of texts result)) ≡ writes checked (contents_of checked out) }
 {
@@ -36,6 +40,6 @@ pub fn put(reply: &mut [u8], out: Out, checked: bool) -> usize
     ensures { (result ≡ length (writes checked (contents_of checked out))) × (reply.new ≡ over 0 (writes checked (contents_of checked out)) reply.old) }
 {
     let packet = packet_of(out, checked);
-    let written = packet_writer::write(packet, b"roomhavediffersone", checked, reply);
+    let written = packet_writer::write(packet, TEXTS, checked, reply);
     calls::count(written)
 }

@@ -1,10 +1,11 @@
 // A step: where a YAPP receiver goes, what it sends and keeps. Here are the steps that leave its record as it is.
 ghost use Rattle.std.specs.Prelude.{◌≡◌, List, ℕ};
 ghost use Rattle.yapp.specs.Steps.{goes, fails, receiver_after_cw};
-ghost use Rattle.yapp_receiver.specs.Receiver.{now_by};
+ghost use Rattle.yapp_receiver.specs.Receiver.{now_of};
 ghost use Rattle.yapp_receiver.specs.Step.{contents_of, reached, reached_by};
 
-use calls::{Keeping, Outcome, saving};
+use crate::Receiver;
+use calls::{Entry, Outcome, saving};
 use fields::Place;
 use yapp::ReceiverState;
 
@@ -38,7 +39,7 @@ pub struct ReceiverCore {
     // Whether a record is resumed, and whether checksums are wanted.
     pub resumes: bool,
     pub checks: bool,
-    pub keeping: Keeping,
+    pub keeping: Option<Entry>,
 }
 
 // What is to be done.
@@ -47,51 +48,48 @@ pub struct Step {
     pub state: ReceiverState,
     // Whether the receiver is in YappC.
     pub checked: bool,
-    pub keeping: Keeping,
+    pub keeping: Option<Entry>,
     pub out: Out,
     // How many bytes were stored.
     pub stored: usize,
-    // Where the record's new name stands in the pending bytes; of no bytes where the name stays.
-    pub name: Place,
+    // Where the record's new name stands in the pending bytes.
+    pub name: Option<Place>,
 }
 
 // The record stays.
-pub fn stay(core: ReceiverCore, checked: bool, name: &[u8], state: ReceiverState, out: Out) -> Step
-    ensures { (a p : List ℕ) → reached name.now (goes (now_by core checked name.now) a state (contents_of checked out)) ≡ reached_by p name.now result a }
+pub fn stay(receiver: &Receiver, state: ReceiverState, out: Out) -> Step
+    ensures { (a p : List ℕ) → reached receiver.now.name (goes (now_of receiver.now) a state (contents_of receiver.now.reader.checked out)) ≡ reached_by p receiver.now.name result a }
 {
-    let keeping = core.keeping;
-    let held = saving::held(keeping, name);
-    let place = Place { start: 0, len: 0 };
     Step {
         state,
-        checked,
-        keeping: held,
+        checked: receiver.reader.checked(),
+        keeping: saving::held(receiver.core.keeping, &receiver.name),
         out,
         stored: 0,
-        name: place,
+        name: None,
     }
 }
 
 // Send CN without reason, enter CW.
-pub fn fail(core: ReceiverCore, checked: bool, name: &[u8], outcome: Outcome) -> Step
-    ensures { (a p : List ℕ) → reached name.now (fails (now_by core checked name.now) a outcome) ≡ reached_by p name.now result a }
+pub fn fail(receiver: &Receiver, outcome: Outcome) -> Step
+    ensures { (a p : List ℕ) → reached receiver.now.name (fails (now_of receiver.now) a outcome) ≡ reached_by p receiver.now.name result a }
 {
-    stay(core, checked, name, ReceiverState::CW { outcome }, Out::CN)
+    stay(receiver, ReceiverState::CW { outcome }, Out::CN)
 }
 
-// Send NR, end.
-pub fn refuse(core: ReceiverCore, checked: bool, name: &[u8], outcome: Outcome, text: Out) -> Step
-    ensures { (a p : List ℕ) → reached name.now (goes (now_by core checked name.now) a (ReceiverState.Ended outcome) (contents_of checked text)) ≡ reached_by p name.now result a }
+// The end, with this sent.
+pub fn end(receiver: &Receiver, outcome: Outcome, out: Out) -> Step
+    ensures { (a p : List ℕ) → reached receiver.now.name (goes (now_of receiver.now) a (ReceiverState.Ended outcome) (contents_of receiver.now.reader.checked out)) ≡ reached_by p receiver.now.name result a }
 {
-    stay(core, checked, name, ReceiverState::Ended { outcome }, text)
+    stay(receiver, ReceiverState::Ended { outcome }, out)
 }
 
 // CW is left with the number that it was entered with.
 pub fn leave_cw(state: ReceiverState) -> ReceiverState
     ensures { result ≡ receiver_after_cw state }
 {
-    let ReceiverState::CW { outcome } = state else {
-        return state;
-    };
-    ReceiverState::Ended { outcome }
+    match state {
+        ReceiverState::CW { outcome } => ReceiverState::Ended { outcome },
+        _ => state,
+    }
 }

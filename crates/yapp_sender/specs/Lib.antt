@@ -1,4 +1,3 @@
 pub mod Sender
 pub mod Step
-pub mod Events
 pub mod Output

@@ -1,12 +1,11 @@
 -- The sender: its beginning, and what each call answers and leaves. (Document 01, "Steps of YAPP", "Numbers that refuse or end".)
-use Rattle.std.specs.Prelude.{ℕ, Bool, true, false, ◌&&◌, List, length, take, replicate, leb, eqb}
+use Rattle.calls.specs.declared.Refusal.{Refusal}
+use Rattle.std.specs.Prelude.{ℕ, Bool, true, false, ◌&&◌, List, length, take, replicate, leb, eqb, None, Ok, Option, Result}
 use Rattle.fields.specs.Pick.{pick}
 use Rattle.fields.specs.Lists.{nowhere}
 use Rattle.fields.specs.Name.{is_name}
 use Rattle.fields.specs.Buffer.{over, appended}
 use Rattle.fields.specs.declared.Place.{Place}
-use Rattle.fields.specs.declared.Stamp.{Stamp}
-use Rattle.fields.specs.declared.Stamp.TheVariants.{Absent}
 use Rattle.packets.specs.Span.{size_of}
 use Rattle.packets.specs.Packet.{place_of}
 use Rattle.packets.specs.Kind.{TX, kind_of}
@@ -16,8 +15,6 @@ use Rattle.packet_stream.specs.declared.Received.{Received}
 use Rattle.packet_stream.specs.Reader.{fresh, checking, receive as reads}
 use Rattle.calls.specs.declared.Outcome.{Outcome}
 use Rattle.calls.specs.declared.Outcome.TheVariants.{NameOutside, LengthOutside, BlockOutside}
-use Rattle.calls.specs.declared.Status.{Status}
-use Rattle.calls.specs.declared.Status.TheVariants.{Taken}
 use Rattle.calls.specs.Checks.{check_of, unless}
 use Rattle.yapp.specs.declared.SenderState.{SenderState}
 use Rattle.yapp.specs.declared.SenderState.TheVariants.{S, SH, SD, SE, ST, CW, Ended}
@@ -32,10 +29,10 @@ abbrev pub refused_begin : Outcome → Sender
 refused_begin o = record {
   reader = fresh false;
   name = replicate 64 0;
-  core = record { state = Ended o; named = 0; size = 0; block = 0; stamp = Absent; resumes = false };
+  core = record { state = Ended o; named = 0; size = 0; block = 0; stamp = None; resumes = false };
 }
 
-abbrev pub begun_sender : List ℕ → ℕ → ℕ → Stamp → Bool → Sender
+abbrev pub begun_sender : List ℕ → ℕ → ℕ → Option ℕ → Bool → Sender
 begun_sender name size block stamp resumes = record {
   reader = fresh false;
   name = appended 0 name (replicate 64 0);
@@ -43,7 +40,7 @@ begun_sender name size block stamp resumes = record {
 }
 
 -- 3, 4, 5 in this order
-unfoldable pub begin : List ℕ → ℕ → ℕ → Stamp → Bool → Sender
+unfoldable pub begin : List ℕ → ℕ → ℕ → Option ℕ → Bool → Sender
 begin name size block stamp resumes =
     pick (is_name name)
     (pick (leb size 99999999)
@@ -68,7 +65,7 @@ settings_of m = record {
 }
 
 -- a refused call changes nothing anywhere
-abbrev pub refused_call : Sender → Status → List ℕ → SenderAfter
+abbrev pub refused_call : Sender → Result (Unit {0}) Refusal → List ℕ → SenderAfter
 refused_call m s reply = record { answer = record { sender = m; status = s; taken = 0; sent = 0; shown = nowhere }; reply = reply }
 
 -- the sender with another reader, state and mode
@@ -91,7 +88,7 @@ abbrev pub replied : Sender → Reader → ℕ → Place → SenderMove → List
 replied m r taken shown a reply = record {
   answer = record {
     sender = moved m r a;
-    status = Taken;
+    status = (Ok tt);
     taken = taken;
     sent = length (writes a.checked a.out);
     shown = shown;
@@ -99,11 +96,11 @@ replied m r taken shown a reply = record {
   reply = over 0 (writes a.checked a.out) reply;
 }
 
-abbrev pub status_of : Sender → List ℕ → List ℕ → Status
+abbrev pub status_of : Sender → List ℕ → List ℕ → Result (Unit {0}) Refusal
 status_of m file reply = check_of (sender_ended m.core.state) (length reply) 0 (length file) m.core.size
 
-abbrev pub unless_refused : Status → Sender → List ℕ → SenderAfter → SenderAfter
-unless_refused s m reply after = unless s (λ (x : Status). refused_call m x reply) after
+abbrev pub unless_refused : Result (Unit {0}) Refusal → Sender → List ℕ → SenderAfter → SenderAfter
+unless_refused s m reply after = unless s (λ (x : Result (Unit {0}) Refusal). refused_call m x reply) after
 
 -- a chance to send (leave)
 unfoldable pub transmit : Sender → List ℕ → List ℕ → SenderAfter

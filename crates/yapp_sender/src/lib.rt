@@ -2,15 +2,15 @@
 #![tactic(auto)]
 
 ghost use Rattle.std.specs.Prelude.{◌≡◌, List, ℕ, ◌≤◌, length};
+ghost use Rattle.fields.specs.Lists.{nowhere};
 ghost use Rattle.calls.specs.Checks.{check_of};
 ghost use Rattle.yapp.specs.Steps.{sender_ended};
-ghost use Rattle.yapp_sender.specs.Sender.{begin as begin_of, transmit as transmit_of, receive as receive_of, timeout as timeout_of, cancel as cancel_of, refused_begin, refused_call, replied, settings_of};
+ghost use Rattle.yapp_sender.specs.Sender.{begin as begin_of, transmit as transmit_of, receive as receive_of, timeout as timeout_of, cancel as cancel_of, refused_begin, refused_call, replied, settings_of, status_of, unless_refused};
 ghost use Rattle.yapp_sender.specs.Step.{move_of};
-ghost use Rattle.yapp_sender.specs.Events.{after_by};
 
-use crate::step::{Event, SenderCore, Step};
-use calls::{Outcome, Status};
-use fields::{Limits, Place, Stamp, buffers, names};
+use crate::step::{NOWHERE, SenderCore, Step};
+use calls::{Outcome, Refusal};
+use fields::{Limits, Place, buffers, names};
 use packet_stream::Reader;
 use yapp::SenderState;
 
@@ -22,7 +22,7 @@ mod step;
 #[derive(Clone, Copy)]
 pub struct Sender {
     reader: Reader,
-    // The file's name at the front.
+    // The file's name at the front, as long as the core says: there is no heap for a name of its own length.
     name: [u8; 64],
     core: SenderCore,
 }
@@ -30,24 +30,13 @@ pub struct Sender {
 #[derive(Clone, Copy)]
 pub struct SenderAnswer {
     pub sender: Sender,
-    pub status: Status,
+    pub status: Result<(), Refusal>,
     // How many bytes of the chunk were taken.
     pub taken: usize,
     // How many bytes of the reply buffer are to be sent.
     pub sent: usize,
     // Where text to show stands in the pending bytes.
     pub shown: Place,
-}
-
-// Whether the end is reached.
-fn is_ended(state: SenderState) -> bool
-    ensures { result ≡ sender_ended state }
-{
-    if let SenderState::Ended { .. } = state {
-        true
-    } else {
-        false
-    }
 }
 
 impl Sender {
@@ -70,26 +59,24 @@ impl Sender {
                 named: 0,
                 size: 0,
                 block: 0,
-                stamp: Stamp::Absent,
+                stamp: None,
                 resumes: false,
             },
         }
     }
 
     // A sender of one file; resumes says whether RE is taken. One that is refused (3, 4, 5) has ended.
-    pub fn begin(name: &[u8], size: usize, block: usize, stamp: Stamp, resumes: bool) -> Self
+    #[tactic(auto, unfolding(crate::specs::Sender::begin))]
+    pub fn begin(name: &[u8], size: usize, block: usize, stamp: Option<u32>, resumes: bool) -> Self
         ensures { result ≡ begin_of name.now size block stamp resumes }
     {
         if !names::is_name(name) {
             return Sender::ended(Outcome::NameOutside);
         }
-        if Limits::FILE < size {
+        if size > Limits::FILE {
             return Sender::ended(Outcome::LengthOutside);
         }
-        if block < 1 {
-            return Sender::ended(Outcome::BlockOutside);
-        }
-        if Limits::BLOCK < block {
+        if !(1..=Limits::BLOCK).contains(&block) {
             return Sender::ended(Outcome::BlockOutside);
         }
         let mut own = [0; 64];
@@ -115,37 +102,33 @@ impl Sender {
     pub fn state(self) -> SenderState
         ensures { result ≡ self.core.state }
     {
-        let core = self.core;
-        core.state
+        self.core.state
     }
 
     // Whether every DT has a checksum (YappC).
     pub fn checked(self) -> bool
         ensures { result ≡ self.reader.checked }
     {
-        let checked = self.reader.checked();
-        checked
+        self.reader.checked()
     }
 
     // The pending bytes (document 01's waiting room), in which the text to show stands.
     pub fn pending(self) -> [u8; 259]
         ensures { result ≡ self.reader.pending }
     {
-        let pending = self.reader.pending();
-        pending
+        self.reader.pending()
     }
 
     // The checks of a call that is lent a file and a reply buffer of these lengths.
-    fn check(self, file: usize, reply: usize) -> Status
-        ensures { result ≡ check_of (sender_ended self.core.state) reply 0 file self.core.size }
+    fn check(&self, file: usize, reply: usize) -> Result<(), Refusal>
+        ensures { result ≡ check_of (sender_ended self.now.core.state) reply 0 file self.now.core.size }
     {
-        let core = self.core;
-        let state = core.state;
-        calls::check(is_ended(state), reply, 0, file, core.size as usize)
+        let ended = matches!(self.core.state, SenderState::Ended { .. });
+        calls::check(ended, reply, 0, file, self.core.size as usize)
     }
 
     // A refused call changes nothing.
-    fn refuse(self, status: Status) -> SenderAnswer
+    fn refuse(self, status: Result<(), Refusal>) -> SenderAnswer
         ensures { (reply : List ℕ) → refused_call self status reply ≡ record { answer = result; reply = reply } }
     {
         SenderAnswer {
@@ -153,7 +136,7 @@ impl Sender {
             status,
             taken: 0,
             sent: 0,
-            shown: Place { start: 0, len: 0 },
+            shown: NOWHERE,
         }
     }
 
@@ -170,40 +153,30 @@ impl Sender {
         requires { 259 ≤ length reply.old }
         ensures { replied self reader taken shown (move_of (settings_of self) file.now step) reply.old ≡ record { answer = result; reply = reply.new } }
     {
-        let sent = output::put(self, step, file, reply);
-        let name = self.name;
-        let core = self.core;
-        let state = step.state;
-        let stamp = core.stamp;
+        let sent = output::put(&self, step, file, reply);
         SenderAnswer {
             sender: Sender {
                 reader: reader.checking(step.checked),
-                name,
                 core: SenderCore {
-                    state,
-                    named: core.named,
-                    size: core.size,
-                    block: core.block,
-                    stamp,
-                    resumes: core.resumes,
+                    state: step.state,
+                    ..self.core
                 },
+                ..self
             },
-            status: Status::Taken,
+            status: Ok(()),
             taken,
             sent,
             shown,
         }
     }
 
-    // A call with which no bytes come.
-    fn on_event(self, event: Event, file: &[u8], reply: &mut [u8]) -> SenderAnswer
-        ensures { after_by event self file.now reply.old ≡ record { answer = result; reply = reply.new } }
+    // The step of an event, unless the call is refused.
+    fn unless_refused(self, step: Step, file: &[u8], reply: &mut [u8]) -> SenderAnswer
+        ensures { unless_refused (status_of self file.now reply.old) self reply.old (replied self self.reader 0 nowhere (move_of (settings_of self) file.now step) reply.old) ≡ record { answer = result; reply = reply.new } }
     {
         let status = self.check(file.len(), reply.len());
         if calls::is_taken(status) {
-            let step = events::decide(self.core, self.reader.checked(), event, file);
-            let nothing = Place { start: 0, len: 0 };
-            return self.finish(self.reader, 0, nothing, step, file, reply);
+            return self.finish(self.reader, 0, NOWHERE, step, file, reply);
         }
         self.refuse(status)
     }
@@ -212,7 +185,12 @@ impl Sender {
     pub fn transmit(self, file: &[u8], reply: &mut [u8]) -> SenderAnswer
         ensures { transmit_of self file.now reply.old ≡ record { answer = result; reply = reply.new } }
     {
-        self.on_event(Event::Transmit, file, reply)
+        let status = self.check(file.len(), reply.len());
+        if calls::is_taken(status) {
+            let step = events::transmit(&self, file);
+            return self.finish(self.reader, 0, NOWHERE, step, file, reply);
+        }
+        self.refuse(status)
     }
 
     // Bytes have arrived: takes the chunk (document 01's portion) at most to the end of one packet.
@@ -222,11 +200,9 @@ impl Sender {
         let status = self.check(file.len(), reply.len());
         if calls::is_taken(status) {
             let got = self.reader.receive(chunk);
-            let packet = got.packet;
-            let step = arrivals::take(self.core, self.reader.checked(), packet);
-            let shown = arrivals::shown_in(self.core, got);
-            let reader = got.reader;
-            return self.finish(reader, got.taken, shown, step, file, reply);
+            let step = arrivals::take(&self, got.packet);
+            let shown = arrivals::shown_in(self.core.state, got);
+            return self.finish(got.reader, got.taken, shown, step, file, reply);
         }
         self.refuse(status)
     }
@@ -235,13 +211,13 @@ impl Sender {
     pub fn timeout(self, file: &[u8], reply: &mut [u8]) -> SenderAnswer
         ensures { timeout_of self file.now reply.old ≡ record { answer = result; reply = reply.new } }
     {
-        self.on_event(Event::Timeout, file, reply)
+        self.unless_refused(events::timeout(&self), file, reply)
     }
 
     // The operator's stop.
     pub fn cancel(self, file: &[u8], reply: &mut [u8]) -> SenderAnswer
         ensures { cancel_of self file.now reply.old ≡ record { answer = result; reply = reply.new } }
     {
-        self.on_event(Event::Cancel, file, reply)
+        self.unless_refused(events::cancel(&self), file, reply)
     }
 }

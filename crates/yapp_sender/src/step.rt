@@ -1,14 +1,17 @@
-// What a YAPP sender is but for its buffers, what can happen to it, and what it does then.
-ghost use Rattle.std.specs.Prelude.{◌≡◌, List, [], ◌∷◌, ℕ};
-ghost use Rattle.packets.specs.Content.{content_of};
-ghost use Rattle.yapp.specs.declared.SenderState.TheVariants.{Ended};
+// What a YAPP sender is but for its buffers, and what it does at a packet or an event.
+ghost use Rattle.std.specs.Prelude.{◌≡◌, List, [], ℕ};
+ghost use Rattle.yapp.specs.declared.SenderState.TheVariants.{SD, Ended};
 ghost use Rattle.yapp.specs.Steps.{SenderSettings, sends, aborts};
-ghost use Rattle.yapp_sender.specs.Step.{move_of};
+ghost use Rattle.yapp_sender.specs.Step.{contents_of, move_of};
 
+use crate::Sender;
 use calls::Outcome;
-use fields::{Place, Stamp};
+use fields::Place;
 use packets::Packet;
 use yapp::SenderState;
+
+// Where nothing stands.
+pub const NOWHERE: Place = Place { start: 0, len: 0 };
 
 #[derive(Clone, Copy)]
 pub struct SenderCore {
@@ -18,17 +21,9 @@ pub struct SenderCore {
     // The file's length.
     pub size: u32,
     pub block: usize,
-    pub stamp: Stamp,
+    pub stamp: Option<u32>,
     // Whether RE is taken.
     pub resumes: bool,
-}
-
-// What the host brings besides bytes: a chance to send (document 01's leave), the timer, the operator's stop.
-#[derive(Clone, Copy)]
-pub enum Event {
-    Transmit,
-    Timeout,
-    Cancel,
 }
 
 // What is to be sent.
@@ -50,39 +45,43 @@ pub struct Step {
     pub out: Out,
 }
 
-// Nothing is sent.
-pub fn stay(state: SenderState, checked: bool) -> Step
-    ensures { (s : SenderSettings) (file : List ℕ) → move_of s file result ≡ sends state checked [] }
+// The next state, in the mode that the sender is in.
+pub fn go(sender: &Sender, state: SenderState, out: Out) -> Step
+    ensures { (s : SenderSettings) (file : List ℕ) → move_of s file result ≡ sends state sender.now.reader.checked (contents_of s file out) }
 {
     Step {
         state,
+        checked: sender.reader.checked(),
+        out,
+    }
+}
+
+// The file is sent from an index on, with checksums or without.
+pub fn start(at: u32, checked: bool) -> Step
+    ensures { (s : SenderSettings) (file : List ℕ) → move_of s file result ≡ sends (SD at) checked [] }
+{
+    Step {
+        state: SenderState::SD { at },
         checked,
         out: Out::Nothing,
     }
 }
 
-// A packet without data is sent.
-pub fn send(state: SenderState, checked: bool, packet: Packet) -> Step
-    ensures { (s : SenderSettings) (file : List ℕ) → move_of s file result ≡ sends state checked (content_of [] packet ∷ []) }
-{
-    Step {
-        state,
-        checked,
-        out: Out::Of(packet),
-    }
-}
-
 // Abort: CN without reason, and CW.
-pub fn abort(outcome: Outcome, checked: bool) -> Step
-    ensures { (s : SenderSettings) (file : List ℕ) → move_of s file result ≡ aborts outcome checked }
+#[tactic(auto, unfolding(packets::specs::Content::content_of))]
+pub fn abort(sender: &Sender, outcome: Outcome) -> Step
+    ensures { (s : SenderSettings) (file : List ℕ) → move_of s file result ≡ aborts outcome sender.now.reader.checked }
 {
-    let none = Place { start: 0, len: 0 };
-    send(SenderState::CW { outcome }, checked, Packet::CN(none))
+    go(
+        sender,
+        SenderState::CW { outcome },
+        Out::Of(Packet::CN(NOWHERE)),
+    )
 }
 
 // The end is reached.
-pub fn end(outcome: Outcome, checked: bool) -> Step
-    ensures { (s : SenderSettings) (file : List ℕ) → move_of s file result ≡ sends (Ended outcome) checked [] }
+pub fn end(sender: &Sender, outcome: Outcome) -> Step
+    ensures { (s : SenderSettings) (file : List ℕ) → move_of s file result ≡ sends (Ended outcome) sender.now.reader.checked [] }
 {
-    stay(SenderState::Ended { outcome }, checked)
+    go(sender, SenderState::Ended { outcome }, Out::Nothing)
 }

@@ -1,11 +1,12 @@
 -- What is laid into the reply buffer. Assumes nothing.
+use Rattle.fields.specs.declared.WriteError.{WriteError}
+use Rattle.std.specs.Prelude.{Result, ℕ}
 use mathlib.Core.Path.{◌≡◌, refl, sym, ap, ◌∙◌}
 use mathlib.Core.Bool.{Bool}
 use mathlib.Core.List.{List, [], ◌∷◌, append-nil}
 use Prim.Native.Nat.{ℕ, ◌≤◌}
 use native.Mathlib.Omega.{arith}
 use lib.ListN.{length, take}
-use Rattle.fields.specs.declared.Written.{Written}
 use Rattle.fields.specs.Buffer.{Form, bytes_in, appended, appended_end, written_of, left_of}
 use Rattle.fields.proofs.Buffer.{over_none, append-fits}
 use Rattle.crc.specs.declared.Reading.{Reading}
@@ -21,7 +22,7 @@ use Rattle.bin_sender.specs.Step.{Laid}
 use Rattle.bin_sender.proofs.step.Cutting.{frame-most}
 
 -- a writer that answers w has laid down what its form f has
-pub wrote : (b : List ℕ) (f : Form) (d e : List ℕ) (w : Written) (r : ℕ) → b ≡ bytes_in f → 259 ≤ length d → r ≡ count_of w
+pub wrote : (b : List ℕ) (f : Form) (d e : List ℕ) (w : Result ℕ WriteError) (r : ℕ) → b ≡ bytes_in f → 259 ≤ length d → r ≡ count_of w
     → (w ≡ written_of 259 f d) × (e ≡ left_of 259 f d) → Laid b d e r
 wrote b f d e w r l h q p = let z = laid f d e w h p in rw l (q ∙ z.0, z.1)
 

@@ -18,8 +18,8 @@ returns-then-frame-gt-FRAME c = numbered _ _ _ _ _ _ (rw (c.if-ended.false, le-l
 
 pub returns-then-lent-given : goal.returns-then-lent-given
 unfolding check_of
-returns-then-lent-given c = numbered _ _ _ _ _ _ (rw (c.if-ended.false, le-ltb _ _ c.if-reply-lt-REPLY.false, le-ltb _ _ c.if-frame-gt-FRAME.false, eq-eqb _ _ c.if-lent-given.true))
+returns-then-lent-given c = numbered _ _ _ _ _ _ (rw (c.if-ended.false, le-ltb _ _ c.if-reply-lt-REPLY.false, le-ltb _ _ c.if-frame-gt-FRAME.false, ne_eqb _ _ c.if-lent-given.true))
 
 pub returns : goal.returns
 unfolding check_of
-returns c = numbered _ _ _ _ _ _ (rw (c.if-ended.false, le-ltb _ _ c.if-reply-lt-REPLY.false, le-ltb _ _ c.if-frame-gt-FRAME.false, ne_eqb _ _ c.if-lent-given.false))
+returns c = numbered _ _ _ _ _ _ (rw (c.if-ended.false, le-ltb _ _ c.if-reply-lt-REPLY.false, le-ltb _ _ c.if-frame-gt-FRAME.false, eq-eqb _ _ c.if-lent-given.false))

@@ -8,7 +8,6 @@ use Rattle.fields.proofs.Lists.{le-or-lt}
 use Rattle.numbers.proofs.RoundTrip.{decimal-length}
 use Rattle.packets.specs.Kind.{kind_of, look}
 use Rattle.listing.specs.Line.{letters, overhead, line, cut, ending}
-use Rattle.listing.proofs.lines.Letters.{short}
 
 pub digits : (n : ℕ) → n < 2 ^ 64 → length (decimal n) ≤ 20
 digits n h = decimal-length 19 n (omega arith) (omega arith)
@@ -30,19 +29,18 @@ more {a} {d} {e} {n} g bs e' r h s =
 ended : (n x : ℕ) → length (decimal n ++ (x ∷ [])) ≡ length (decimal n) + 1
 ended n x = length-append (decimal n) (x ∷ [])
 
-pub line-written : (offset k count : ℕ) (d e₁ e₂ e₃ e₄ : List ℕ) (r₁ r₂ r₃ r₄ : ℕ) → offset < 2 ^ 64 → k ≤ 18
+pub line-written : (offset count : ℕ) (kind d e₁ e₂ e₃ e₄ : List ℕ) (r₁ r₂ r₃ r₄ : ℕ) → offset < 2 ^ 64 → length kind ≤ 3
     → 26 + length (decimal count) ≤ length d
-    → Step 0 (decimal offset ++ (32 ∷ [])) d e₁ r₁ → Step r₁ (letters k) e₁ e₂ r₂ → Step r₂ (32 ∷ []) e₂ e₃ r₃
+    → Step 0 (decimal offset ++ (32 ∷ [])) d e₁ r₁ → Step r₁ kind e₁ e₂ r₂ → Step r₂ (32 ∷ []) e₂ e₃ r₃
     → Step r₃ (decimal count ++ (10 ∷ [])) e₃ e₄ r₄
-    → (r₄ ≡ length (line offset (letters k) count)) × (e₄ ≡ over 0 (line offset (letters k) count) d)
+    → (r₄ ≡ length (line offset kind count)) × (e₄ ≡ over 0 (line offset kind count) d)
 unfolding line
-line-written offset k count d e₁ e₂ e₃ e₄ r₁ r₂ r₃ r₄ ho hk hd s₁ s₂ s₃ s₄ =
+line-written offset count kind d e₁ e₂ e₃ e₄ r₁ r₂ r₃ r₄ ho lk hd s₁ s₂ s₃ s₄ =
     let lo = digits offset ho in
-    let lk = short k hk in
     let l₁ = ended offset 32 in
     let l₄ = ended count 10 in
     let g₁ = more (grown-none d) (decimal offset ++ (32 ∷ [])) e₁ r₁ (omega arith) s₁ in
-    let g₂ = more g₁.0 (letters k) e₂ r₂ (omega (arith, g₁.1)) s₂ in
+    let g₂ = more g₁.0 kind e₂ r₂ (omega (arith, g₁.1)) s₂ in
     let g₃ = more g₂.0 (32 ∷ []) e₃ r₃ (omega (arith, g₁.1, g₂.1)) s₃ in
     let g₄ = more g₃.0 (decimal count ++ (10 ∷ [])) e₄ r₄ (omega (arith, g₁.1, g₂.1, g₃.1)) s₄ in
     grown-is _ g₄.0 (simp append_assoc)
@@ -60,6 +58,11 @@ pub cut-some : (offset n : ℕ) → (n ≡ 0 → ⊥) → cut offset n ≡ line 
 unfolding cut overhead kind_of look
 cut-some offset n h = rw (ne_eqb n 0 h) (ap (line offset (letters 18)) (sub-zero n))
 
+-- `CUT`
+short : length (letters 18) ≤ 3
+unfolding letters look
+short = omega arith
+
 line-length : (offset count : ℕ) (l : List ℕ) → length (line offset l count) ≡ length (decimal offset) + length l + length (decimal count) + 3
 unfolding line
 line-length offset count l = simp length-append (omega arith)
@@ -69,7 +72,7 @@ cut-length offset n ho hn =
     ⊎_elim
     (λ (g : 1 ≤ n).
     rw (cut-some offset n (λ e. omega arith), line-length offset n (letters 18))
-    (omega (arith, digits offset ho, digits n hn, short 18 (omega arith))))
+    (omega (arith, digits offset ho, digits n hn, short)))
     (λ (g : n < 1). rw (cut-none offset n (omega arith)) (omega arith))
     (le-or-lt 1 n)
 

@@ -1,15 +1,13 @@
 -- The laws of decimal and hex digits and of little-endian bytes that are written.
 -- Assumes nothing.
 use mathlib.Core.Path.{◌≡◌, refl, ap, ◌∙◌}
-use mathlib.Core.List.{List, [], ◌∷◌, ◌++◌, append-nil}
+use mathlib.Core.List.{List, [], ◌∷◌, ◌++◌}
 use Prim.Native.Nat.{ℕ, zero, suc, ◌+◌, ◌-◌, ◌*◌, ◌/◌, ◌%◌, ◌^◌, ◌≤◌, ◌<◌}
 use native.Mathlib.Nat.{pow-suc}
 use native.Mathlib.Numerals.{sub-one}
 use native.Mathlib.Omega.{arith}
-use lib.ListN.{length, take, drop, get_or, set, length-take, length-append, drop_of_length-le}
-use lib.Seq.{drop-cons, set_at, take-length, drop-length}
+use lib.ListN.{length, length-append}
 use mathlib.Core.Logic.{⊎_elim}
-use borrow.Rule.Slice.PartMut.{mid_of, put_mid}
 use Rattle.fields.proofs.Lists.{le-or-lt}
 use borrow.Author.Tests.{lt-ltb, le-ltb}
 use Rattle.numbers.specs.Writing.{digits, decimal, capital, hex, little}
@@ -60,20 +58,14 @@ unfolding hex
 hex-length zero v = refl
 hex-length (suc w) v = simp (length-append, hex-length w (v / 16)) (omega arith)
 
-pub hex-none : (d : List ℕ) (v : ℕ) → length d ≤ 0 → d ≡ hex (length d) v
+pub hex_none : (d : List ℕ) (v : ℕ) → length d ≡ 0 → d ≡ hex (length d) v
 unfolding hex
-hex-none [] v h = refl
-hex-none (x ∷ d) v h = absurd (omega arith)
+hex_none [] v h = refl
+hex_none (x ∷ d) v h = absurd (omega arith)
 
--- the digits but the last are in p, and the last is stored behind them
-pub hex-more : (d p : List ℕ) (v x : ℕ) → 0 < length d → p ≡ hex (length (take (length d - 1) d)) (v / 16) → x ≡ capital (v % 16)
-    → set (p ++ drop (length d - 1) d) (length d - 1) x ≡ hex (length d) v
-hex-more d p v x h e q =
-    let l : length (take (length d - 1) d) ≡ length d - 1 = simp length-take (omega arith) in
-    let m : length p ≡ length d - 1 = ap length e ∙ hex-length _ _ ∙ l in
-    let g : drop (suc (length d - 1)) d ≡ [] = drop_of_length-le d {i = suc (length d - 1)} (omega arith) in
-    rw (drop-cons d (length d - 1) 0 (omega arith)) (set_at p (get_or d (length d - 1) 0) (drop (suc (length d - 1)) d) x (length d - 1) m
-    ∙ simp (g, q, e, l, hex-suc (length d) v h))
+-- the digits but the last are in p, and x is the last
+pub hex_more : (d p : List ℕ) (v x n : ℕ) → p ≡ hex n (v / 16) → x ≡ capital (v % 16) → length d ≡ n + 1 → p ++ x ∷ [] ≡ hex (length d) v
+hex_more d p v x n e q l = let m : length d - 1 ≡ n = omega arith in simp (hex-suc (length d) v (omega arith), m, e, q)
 
 -- little-endian bytes
 pub little-length : (w v : ℕ) → length (little w v) ≡ w
@@ -81,16 +73,16 @@ unfolding little
 little-length zero v = refl
 little-length (suc w) v = ap suc (little-length w (v / 256))
 
-pub little-none : (d : List ℕ) (v : ℕ) → length d ≤ 0 → d ≡ little (length d) v
+little-suc : (n v : ℕ) → 0 < n → little n v ≡ v % 256 ∷ little (n - 1) (v / 256)
 unfolding little
-little-none [] v h = refl
-little-none (x ∷ d) v h = absurd (omega arith)
+little-suc zero v h = absurd (omega arith)
+little-suc (suc n) v h = rw (sub-one (suc n))
 
--- the first byte is stored, and the others are in p
-pub little-more : (d p : List ℕ) (v k : ℕ) → 0 < length d → k ≡ length d - 1
-    → p ≡ little (length (mid_of 1 k (set d 0 (v % 256)))) (v / 256) → put_mid 1 k (set d 0 (v % 256)) p ≡ little (length d) v
+pub little_none : (d : List ℕ) (v : ℕ) → length d ≡ 0 → d ≡ little (length d) v
 unfolding little
-little-more [] p v k h e q = absurd (omega arith)
-little-more (c ∷ d) p v k h e q =
-    let l : k ≡ length d = omega arith in
-    rw (l, q, l, take-length d, drop-length d) (ap (λ (r : List ℕ). v % 256 ∷ r) (append-nil (little (length d) (v / 256))))
+little_none [] v h = refl
+little_none (x ∷ d) v h = absurd (omega arith)
+
+-- the first byte, and the others in p
+pub little_more : (d p : List ℕ) (v n : ℕ) → p ≡ little n (v / 256) → length d ≡ n + 1 → v % 256 ∷ p ≡ little (length d) v
+little_more d p v n e l = let m : length d - 1 ≡ n = omega arith in simp (little-suc (length d) v (omega arith), m, e)

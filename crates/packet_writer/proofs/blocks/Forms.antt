@@ -2,23 +2,14 @@
 use mathlib.Core.Path.{◌≡◌, ap}
 use mathlib.Core.Bool.{Bool, true, false}
 use mathlib.Core.List.{List, [], ◌∷◌, ◌++◌, append-nil}
-use Prim.Native.Nat.{ℕ, ◌%◌, ◌≤◌, ◌<◌}
-use native.Mathlib.Omega.{arith}
+use Prim.Native.Nat.{ℕ, ◌%◌, ◌≤◌}
 use lib.ListN.{length}
-use borrow.Author.Tests.{le-leb, lt-leb}
-use Rattle.fields.specs.Buffer.{formless, bytes}
+use borrow.Author.Tests.{le-leb}
+use Rattle.fields.specs.Buffer.{bytes}
 use Rattle.packets.specs.Packet.{checksum}
 use Rattle.packets.specs.Content.{block_form}
 
 module _ (checked : Bool) (s : List ℕ) where
-  pub block_none : length s < 1 → block_form checked s ≡ formless
-  unfolding block_form
-  block_none h = rw (lt-leb 1 (length s) h)
-
-  pub block-long : 256 < length s → block_form checked s ≡ formless
-  unfolding block_form
-  block-long h = rw (le-leb 1 (length s) (omega arith), lt-leb (length s) 256 h)
-
   module _ (some : 1 ≤ length s) (short : length s ≤ 256) where
     pub block-checked : checked ≡ true → block_form checked s ≡ bytes ((2 ∷ length s % 256 ∷ s) ++ (checksum s ∷ []))
     unfolding block_form

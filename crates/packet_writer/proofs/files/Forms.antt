@@ -1,17 +1,16 @@
 -- The laws of the forms of HD and RE: for each the ways that it is refused, and its bytes; and how their data are laid into the
 -- buffer. Assumes nothing.
+use Rattle.std.specs.Prelude.{None, Option, Some, ℕ}
 use mathlib.Core.Path.{◌≡◌, sym, ap}
 use mathlib.Core.Bool.{Bool, true, false}
 use mathlib.Core.List.{List, [], ◌∷◌, ◌++◌, append_assoc, append-nil}
 use Prim.Native.Nat.{ℕ, ◌+◌, ◌≤◌, ◌<◌}
 use native.Mathlib.Omega.{arith}
 use lib.ListN.{length, length-append}
-use borrow.Author.Tests.{le-leb, lt-leb}
-use Rattle.fields.specs.declared.Stamp.{Stamp}
-use Rattle.fields.specs.declared.Stamp.TheVariants.{Present, Absent}
+use borrow.Author.Tests.{le-leb}
 use Rattle.fields.specs.Name.{is_name}
 use Rattle.numbers.specs.Writing.{decimal, hex}
-use Rattle.fields.specs.Buffer.{over, appended, appended_end, formless, bytes}
+use Rattle.fields.specs.Buffer.{over, appended, appended_end, bytes}
 use Rattle.numbers.proofs.RoundTrip.{decimal-length}
 use Rattle.fields.proofs.Buffer.{Grown, grown-none, grown}
 use Rattle.packet_writer.specs.Front.{front}
@@ -34,7 +33,7 @@ pub front_short : (a : List ℕ) (n : ℕ) → n ≤ 99999999 → length (front 
 front_short a n h = let l = decimal-length 7 n (omega arith) (omega arith) in simp length-append (omega arith)
 
 module _ (a : List ℕ) (n : ℕ) (d e₁ e₂ e₃ : List ℕ) (r₁ r₂ r₃ : ℕ) where
-  pub fronted : length a ≤ 64 → n ≤ 99999999 → 257 ≤ length d
+  pub fronted : length a ≤ 64 → n ≤ 99999999 → 83 ≤ length d
       → (r₁ ≡ appended_end 0 a d) × (e₁ ≡ appended 0 a d)
       → (r₂ ≡ appended_end r₁ (0 ∷ []) e₁) × (e₂ ≡ appended r₁ (0 ∷ []) e₁)
       → (r₃ ≡ appended_end r₂ (decimal n ++ (0 ∷ [])) e₂) × (e₃ ≡ appended r₂ (decimal n ++ (0 ∷ [])) e₂)
@@ -48,15 +47,7 @@ module _ (a : List ℕ) (n : ℕ) (d e₁ e₂ e₃ : List ℕ) (r₁ r₂ r₃ 
 
 -- ---- HD
 
-module _ (name : List ℕ) (size : ℕ) (stamp : Stamp) where
-  pub header-name : is_name name ≡ false → header_form name size stamp ≡ formless
-  unfolding header_form
-  header-name h = rw h
-
-  pub header-size : is_name name ≡ true → 99999999 < size → header_form name size stamp ≡ formless
-  unfolding header_form
-  header-size h g = rw (h, lt-leb size 99999999 g)
-
+module _ (name : List ℕ) (size : ℕ) (stamp : Option ℕ) where
   pub header_is : is_name name ≡ true → size ≤ 99999999 → stamp_fits stamp ≡ true
       → header_form name size stamp ≡ bytes (1 ∷ length (header_data name size stamp) ∷ header_data name size stamp)
   unfolding header_form
@@ -66,21 +57,17 @@ module _ (name : List ℕ) (size : ℕ) (stamp : Stamp) where
   unfolding header_data
   header-front = ap (λ (l : List ℕ). l ++ stamp_data stamp) (append_assoc (name ++ (0 ∷ [])) (decimal size) (0 ∷ []))
 
-  pub header-stamp : (v : ℕ) → stamp ≡ Present v → front name size ++ (hex 8 v ++ (0 ∷ [])) ≡ header_data name size stamp
+  pub header-stamp : (v : ℕ) → stamp ≡ Some v → front name size ++ (hex 8 v ++ (0 ∷ [])) ≡ header_data name size stamp
   unfolding stamp_data
   header-stamp v e = rw (header-front, e)
 
-  pub header-plain : stamp ≡ Absent → front name size ≡ header_data name size stamp
+  pub header-plain : stamp ≡ None → front name size ≡ header_data name size stamp
   unfolding stamp_data
   header-plain e = rw (header-front, e) (sym (append-nil (front name size)))
 
 -- ---- RE
 
 module _ (n : ℕ) (checked : Bool) where
-  pub resume-far : 99999999 < n → resume_form n checked ≡ formless
-  unfolding resume_form
-  resume-far h = rw (lt-leb n 99999999 h)
-
   pub resume-is : n ≤ 99999999 → resume_form n checked ≡ bytes (0x15 ∷ length (resume_data n checked) ∷ resume_data n checked)
   unfolding resume_form
   resume-is h = rw (le-leb n 99999999 h)

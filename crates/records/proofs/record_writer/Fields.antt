@@ -1,10 +1,10 @@
 -- The laws of writing a record, field by field. Assumes nothing.
+use Rattle.std.specs.Prelude.{Option, ℕ}
 use mathlib.Core.Path.{◌≡◌, sym, ◌∙◌}
 use mathlib.Core.List.{List, append_assoc}
 use Prim.Native.Nat.{ℕ, ◌+◌, ◌≤◌}
 use native.Mathlib.Omega.{arith}
 use lib.ListN.{length}
-use Rattle.fields.specs.declared.Stamp.{Stamp}
 use Rattle.numbers.specs.Writing.{little}
 use Rattle.fields.specs.Buffer.{over}
 use Rattle.fields.proofs.Buffer.{Laid, begin, lay, grown-is}
@@ -13,7 +13,7 @@ use Rattle.records.specs.Saved.{saved, kind_of, stamp_bytes, record_data, record
 use Rattle.records.proofs.Laws.{stamp-length, data-length}
 
 -- the fields one after the other, each writer lent what the one before it left
-pub put_all : (name : List ℕ) (size kept : ℕ) (stamp : Stamp) (n k : ℕ) → n ≡ 11 + length (stamp_bytes stamp) + length name → k ≡ kind_of stamp
+pub put_all : (name : List ℕ) (size kept : ℕ) (stamp : Option ℕ) (n k : ℕ) → n ≡ 11 + length (stamp_bytes stamp) + length name → k ≡ kind_of stamp
     → (d : List ℕ) → length name ≤ 64 → 81 ≤ length d
     → (e₁ e₂ e₃ e₄ e₅ e₆ e₇ : List ℕ) (r₁ r₂ r₃ r₄ r₅ r₆ r₇ : ℕ)
     → Laid 0 (little 2 n) d r₁ e₁ → Laid r₁ (little 2 k) e₁ r₂ e₂ → Laid r₂ (little 4 size) e₂ r₃ e₃ → Laid r₃ (little 4 kept) e₃ r₄ e₄

@@ -1,10 +1,6 @@
--- The loop of `feed` ends: each step takes at least one byte of the chunk.
-use Prim.Native.Nat.{◌-◌, ◌≤◌}
+-- The loop of `feed` ends: each step takes at least one byte of what is left.
 use lib.ListN.{length}
 use Rattle.run_listing.proofs.feed.Given as goal
 
-abbrev pub invariant-loop-at : goal.invariant-loop-at
-invariant-loop-at g l = l.at ≤ length l.s
-
-abbrev pub decreases-loop-at : goal.decreases-loop-at
-decreases-loop-at g l = length l.s - l.at
+abbrev pub decreases-loop-rest : goal.decreases-loop-rest
+decreases-loop-rest g l = length l.rest

@@ -1,47 +1,34 @@
--- The timer and the operator's stop by whether the receiver is open. Assumes nothing.
-use mathlib.Core.Path.{◌≡◌, refl, sym}
-use mathlib.Core.Bool.{true, false}
+-- The timer and the operator's stop, by the variants that are left. Assumes nothing.
+use mathlib.Core.Path.{◌≡◌, refl}
+use mathlib.Core.Bool.{Bool}
 use mathlib.Core.List.{List, []}
+use mathlib.Core.Logic.{◌⊎◌, inl, inr}
 use Prim.Native.Nat.{ℕ}
-use native.Mathlib.Omega.{arith}
+use Rattle.calls.specs.declared.Outcome.{Outcome}
 use Rattle.calls.specs.declared.Outcome.TheVariants.{TimedOut, Stopped}
 use Rattle.yapp.specs.declared.ReceiverState.{ReceiverState}
 use Rattle.yapp.specs.declared.ReceiverState.TheVariants.{R, RH, RD, CW, Ended}
-use Rattle.yapp.specs.Steps.{ReceiverNow, goes, fails, receiver_after_cw, receiver_times_out, receiver_cancels}
-use Rattle.yapp_receiver.specs.Step.{is_open}
+use Rattle.yapp.specs.Steps.{ReceiverNow, goes, fails, receiver_times_out, receiver_cancels}
 
-never : {A : Type 0} → false ≡ true → A
-never h = absurd (let z : ◌≡◌ {A = ℕ} 0 1 = cc h in omega arith)
-
-module _ (n : ReceiverNow) (a : List ℕ) where
-  pub times-open : (st : ReceiverState) → is_open st ≡ true → receiver_times_out n a st ≡ fails n a TimedOut
+module _ (n : ReceiverNow) (a : List ℕ) (x : ReceiverState) where
+  pub times_out : (x ≡ R) ⊎ ((w : Bool) × (x ≡ RH w)) ⊎ (x ≡ RD) → receiver_times_out n a x ≡ fails n a TimedOut
   unfolding receiver_times_out
-  times-open R h = refl
-  times-open (RH whole) h = refl
-  times-open RD h = refl
-  times-open (CW o) h = never h
-  times-open (Ended o) h = never h
+  times_out (inl e) = rw e refl
+  times_out (inr (inl (w, e))) = rw e refl
+  times_out (inr (inr e)) = rw e refl
 
-  pub times-rest : (st : ReceiverState) → is_open st ≡ false → receiver_times_out n a st ≡ goes n a (receiver_after_cw st) []
+  pub times_end : (o : Outcome) → (x ≡ CW o) ⊎ (x ≡ Ended o) → receiver_times_out n a x ≡ goes n a (Ended o) []
   unfolding receiver_times_out
-  times-rest R h = never (sym h)
-  times-rest (RH whole) h = never (sym h)
-  times-rest RD h = never (sym h)
-  times-rest (CW o) h = refl
-  times-rest (Ended o) h = refl
+  times_end o (inl e) = rw e refl
+  times_end o (inr e) = rw e refl
 
-  pub stops-open : (st : ReceiverState) → is_open st ≡ true → receiver_cancels n a st ≡ fails n a Stopped
+  pub stops : (x ≡ R) ⊎ ((w : Bool) × (x ≡ RH w)) ⊎ (x ≡ RD) → receiver_cancels n a x ≡ fails n a Stopped
   unfolding receiver_cancels
-  stops-open R h = refl
-  stops-open (RH whole) h = refl
-  stops-open RD h = refl
-  stops-open (CW o) h = never h
-  stops-open (Ended o) h = never h
+  stops (inl e) = rw e refl
+  stops (inr (inl (w, e))) = rw e refl
+  stops (inr (inr e)) = rw e refl
 
-  pub stops-rest : (st : ReceiverState) → is_open st ≡ false → receiver_cancels n a st ≡ goes n a st []
+  pub stops_none : ((o : Outcome) × (x ≡ CW o)) ⊎ ((o : Outcome) × (x ≡ Ended o)) → receiver_cancels n a x ≡ goes n a x []
   unfolding receiver_cancels
-  stops-rest R h = never (sym h)
-  stops-rest (RH whole) h = never (sym h)
-  stops-rest RD h = never (sym h)
-  stops-rest (CW o) h = refl
-  stops-rest (Ended o) h = refl
+  stops_none (inl (o, e)) = rw e refl
+  stops_none (inr (o, e)) = rw e refl

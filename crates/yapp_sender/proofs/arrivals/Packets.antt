@@ -1,66 +1,17 @@
--- What a packet does by the number of its action, and what is known of a state or a packet by the variants that are left. Assumes nothing.
+-- What a packet does by the number of its action in the table. Assumes nothing.
 use mathlib.Core.Path.{◌≡◌, refl, sym, ap, ◌∙◌}
-use mathlib.Core.Bool.{Bool, false}
+use mathlib.Core.Bool.{Bool}
 use mathlib.Core.List.{List, []}
 use Prim.Native.Nat.{ℕ}
-use Rattle.calls.specs.declared.Outcome.{Outcome}
 use Rattle.packets.specs.Content.{content_of}
 use Rattle.packets.specs.Kind.{kind_of}
-use Rattle.packets.specs.Data.{on_resume}
 use Rattle.packets.specs.declared.Packet.{Packet}
-use Rattle.packets.specs.declared.Resume.{Resume}
-use Rattle.packets.specs.declared.Packet.TheVariants.{RR, RF, AF, AT, CA, RT, SI, RI, HD, Malformed, DT, EF, ET, NR, RE, CN, TX, Dropped, Open}
 use Rattle.packets.proofs.KindLaws.{kind-same}
 use Rattle.yapp.specs.declared.SenderState.{SenderState}
-use Rattle.yapp.specs.declared.SenderState.TheVariants.{S, SH, SD, SE, ST, CW, Ended}
 use Rattle.yapp.specs.Rows.{Action, nothing, abort, refused, cancelled, success, end_cw, answers, send_header, start, start_checked, resume, send_trailer, ready, trailer, judge, second, store, eof, sender_row}
 use Rattle.yapp.specs.Table.{action_number}
-use Rattle.yapp.specs.Steps.{SenderSettings, sends, sender_after_cw, sender_does, sender_takes}
+use Rattle.yapp.specs.Steps.{SenderSettings, sends, sender_does, sender_takes}
 use Rattle.yapp.proofs.Actions.{action-same}
-use Rattle.yapp_sender.specs.Sender.{is_sd}
-
-pub not-cw : (s : SenderState) → ((o : Outcome) → s ≡ CW o → ⊥) → sender_after_cw s ≡ s
-not-cw (S begun timeouts) k = refl
-not-cw SH k = refl
-not-cw (SD n) k = refl
-not-cw SE k = refl
-not-cw ST k = refl
-not-cw (CW o) k = absurd (k o refl)
-not-cw (Ended o) k = refl
-
-pub not-sd : (s : SenderState) → ((n : ℕ) → s ≡ SD n → ⊥) → false ≡ is_sd s
-not-sd (S begun timeouts) k = refl
-not-sd SH k = refl
-not-sd (SD n) k = absurd (k n refl)
-not-sd SE k = refl
-not-sd ST k = refl
-not-sd (CW o) k = refl
-not-sd (Ended o) k = refl
-
--- a packet that is no RE asks for no resume
-pub not-re : {A : Type 0} (bytes : List ℕ) (f : ℕ → Bool → A) (other : A) (p : Packet)
-    → ((r : Resume) → p ≡ RE r → ⊥)
-    → other ≡ on_resume (content_of bytes p) f other
-unfolding on_resume content_of
-not-re s f other RR k = refl
-not-re s f other RF k = refl
-not-re s f other AF k = refl
-not-re s f other AT k = refl
-not-re s f other CA k = refl
-not-re s f other RT k = refl
-not-re s f other SI k = refl
-not-re s f other (RI p) k = refl
-not-re s f other (HD h) k = refl
-not-re s f other (Malformed w) k = refl
-not-re s f other (DT b) k = refl
-not-re s f other EF k = refl
-not-re s f other ET k = refl
-not-re s f other (NR p) k = refl
-not-re s f other (RE r) k = absurd (k r refl)
-not-re s f other (CN p) k = refl
-not-re s f other (TX p) k = refl
-not-re s f other (Dropped n) k = refl
-not-re s f other Open k = refl
 
 -- n is the number that the table has for the packet, which is of the kind
 module _ (st : SenderState) (kind n : ℕ) (packet : Packet) (is : kind ≡ kind_of (content_of [] packet)) (told : n ≡ action_number (sender_row st kind)) (s : SenderSettings) (k : Bool) (bytes : List ℕ) where

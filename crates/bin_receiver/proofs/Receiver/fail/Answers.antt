@@ -1,7 +1,7 @@
 -- `fail` checks the call, and ends what has not ended. Assumes nothing.
 use mathlib.Core.Path.{◌∙◌}
-use Rattle.calls.proofs.Laws.{taken-room, taken-by}
-use Rattle.bin_receiver.proofs.Calls.{fails-taken, fails-refused}
+use Rattle.calls.proofs.Laws.{taken-room, taken-open, taken-by, unless-taken}
+use Rattle.bin_receiver.proofs.Calls.{fails-open}
 use Rattle.bin_receiver.proofs.Receiver.fail.Goals as goal
 
 pub finish-requires : goal.finish-requires
@@ -11,10 +11,6 @@ finish-requires c =
 pub returns-then-is_taken : goal.returns-then-is_taken
 returns-then-is_taken c =
     let g = c.args in
-    fails-taken g.self g.area.now g.reply.now g.outcome _ c.end-step.result _ (taken-by c.check-status.ensures c.is_taken.ensures c.if-is_taken.true) c.held-held.ensures (c.end-step.ensures _ g.self.name g.area.now) (λ v. c.finish.ensures v g.area.now)
-
-pub returns : goal.returns
-returns c =
-    let g = c.args in
-    fails-refused g.self g.area.now g.reply.now g.outcome (taken-by c.check-status.ensures c.is_taken.ensures c.if-is_taken.false)
-    ∙ rw (c.unchanged.ensures, c.check-status.ensures)
+    let h = taken-by c.check-status.ensures c.is_taken.ensures c.if-is_taken.true in
+    unless-taken _ _ _ h
+    ∙ rw (fails-open g.outcome g.self.core.state _ g.area.now (taken-open _ _ _ _ _ h)) ((rw c.end-step.ensures at c.finish.ensures) g.area.now)

@@ -8,18 +8,6 @@ use Rattle.bin_receiver.proofs.output.put.Goals as goal
 pub returns-in-Silent : goal.returns-in-Silent
 returns-in-Silent c = rw c.in-Silent.is (refl, sym (over_none _))
 
-pub returns-in-Format : goal.returns-in-Format
-returns-in-Format c = rw c.in-Format.is c.put_no.ensures
-
-pub returns-in-Room : goal.returns-in-Room
-returns-in-Room c = rw c.in-Room.is c.put_no-in-Room.ensures
-
-pub returns-in-Have : goal.returns-in-Have
-returns-in-Have c = rw c.in-Have.is c.put_no-in-Have.ensures
-
-pub returns-in-Differs : goal.returns-in-Differs
-returns-in-Differs c = rw c.in-Differs.is c.put_no-in-Differs.ensures
-
 pub returns-in-FirstOk : goal.returns-in-FirstOk
 unfolding form_of
 returns-in-FirstOk c =

@@ -1,29 +1,21 @@
 -- A frame is checked, decided and answered. Assumes nothing.
+use mathlib.Core.Path.{◌∙◌}
 use native.Mathlib.Omega.{arith}
-use lib.ListN.{length}
-use Rattle.bin.specs.Steps.{sender_takes}
-use Rattle.bin_sender.specs.Sender.{settings_of, receive}
-use Rattle.bin_sender.proofs.Calls.{file-fits, room, call-taken, call-refused}
+use Rattle.calls.proofs.Laws.{taken-room, taken-by, unless-taken}
+use Rattle.bin_sender.specs.Sender.{receive}
+use Rattle.bin_sender.proofs.Calls.{file-fits}
 use Rattle.bin_sender.proofs.Sender.receive.Goals as goal
 
-pub receive-requires : goal.receive-requires
-receive-requires c =
-    let a = c.args in
-    file-fits a.self (length a.frame.now) a.file.now a.reply.now _ _ c.check-status.ensures c.is_taken.ensures c.if-is_taken.true (omega arith)
+pub invariant_of-lent : goal.invariant_of-lent
+invariant_of-lent c =
+    let g = c.args in
+    record { counted = file-fits g.self _ g.file.now g.reply.now (taken-by c.check-status.ensures c.is_taken.ensures c.if-is_taken.true) (omega arith) }
 
 pub finish-requires : goal.finish-requires
-finish-requires c =
-    let a = c.args in
-    room a.self (length a.frame.now) a.file.now a.reply.now _ _ c.check-status.ensures c.is_taken.ensures c.if-is_taken.true
+finish-requires c = (taken-room _ _ _ _ _ (taken-by c.check-status.ensures c.is_taken.ensures c.if-is_taken.true)).0
 
 pub returns-then-is_taken : goal.returns-then-is_taken
 unfolding receive
 returns-then-is_taken c =
-    let a = c.args in
-    call-taken a.self (length a.frame.now) a.file.now a.reply.now _ _ c.check-status.ensures c.is_taken.ensures c.if-is_taken.true _ _ _ c.receive.ensures c.finish.ensures
-
-pub returns : goal.returns
-unfolding receive
-returns c =
-    let a = c.args in
-    call-refused a.self (length a.frame.now) a.file.now a.reply.now _ _ c.check-status.ensures c.is_taken.ensures c.if-is_taken.false (sender_takes (settings_of a.self) a.file.now a.self.core.state a.frame.now) _ c.refused.ensures
+    unless-taken _ _ _ (taken-by c.check-status.ensures c.is_taken.ensures c.if-is_taken.true)
+    ∙ rw (← c.receive.ensures) c.finish.ensures

@@ -13,19 +13,19 @@ overflow_add-result c =
     let a = c.args in
     let d = a.buf.now in
     let k = length d - a.at in
-    let call = c.put_bytes-n in
+    let call = c.put_bytes in
     let m : length (mid_of a.at k d) ≡ k = simp (length-take, length-drop) (omega arith) in
     omega (arith, call.ensures.0, count-le a.bytes.now (mid_of a.at k d))
 
-pub returns-then-at-buf : goal.returns-then-at-buf
-returns-then-at-buf c =
+pub returns : goal.returns
+returns c =
     let a = c.args in
     let d = a.buf.now in
     let k = length d - a.at in
-    let call = c.put_bytes-n in
+    let call = c.put_bytes in
     append-part a.at a.bytes.now d k call.result call.new.buf (omega arith) refl call.ensures.0 call.ensures.1
 
-pub returns : goal.returns
-returns c =
+pub returns-then-buf-at : goal.returns-then-buf-at
+returns-then-buf-at c =
     let a = c.args in
     append-short a.at a.bytes.now a.buf.now (omega arith)

@@ -9,4 +9,4 @@ put_found-written-requires c =
     rw c.receive-got.ensures (feed-size r.checked r.pending r.filled 0 c.args.chunk.now)
 
 pub returns : goal.returns
-returns c = rw (c.advance-offset.ensures, c.put_found-written.ensures.0, c.put_found-written.ensures.1, c.receive-got.ensures)
+returns c = rw (c.size_of.ensures, c.put_found-written.ensures.0, c.put_found-written.ensures.1, c.receive-got.ensures)

@@ -7,18 +7,13 @@ use Rattle.fields.proofs.Buffer.{append-whole, append-short}
 use Rattle.numbers.proofs.numerals.Writing.{little-length}
 use Rattle.numbers.proofs.little_writer.append_little.Goals as goal
 
-pub returns-then-width-buf : goal.returns-then-width-buf
-returns-then-width-buf c =
+pub returns : goal.returns
+returns c =
     let a = c.args in
     let call = c.fill_little in
     append-whole a.at a.width (λ (w : ℕ). little w a.v) call.new.buf a.buf.now (omega arith) (little-length a.width a.v) call.ensures
 
-pub returns-else-width-buf : goal.returns-else-width-buf
-returns-else-width-buf c =
-    let a = c.args in
-    append-short a.at (little a.width a.v) a.buf.now (rw (little-length a.width a.v) (omega arith))
-
-pub returns-else-at-buf : goal.returns-else-at-buf
-returns-else-at-buf c =
+pub returns-then-buf-at : goal.returns-then-buf-at
+returns-then-buf-at c =
     let a = c.args in
     append-short a.at (little a.width a.v) a.buf.now (rw (little-length a.width a.v) (omega arith))

@@ -15,19 +15,19 @@ overflow_add-result c =
     let a = c.args in
     let d = a.buf.now in
     let k = length d - a.at in
-    let call = c.put_decimal-k in
+    let call = c.put_decimal in
     let m : length (mid_of a.at k d) ≡ k = simp (length-take, length-drop) (omega arith) in
     omega (arith, call.ensures.0, count-le (decimal a.n ++ (a.end ∷ [])) (mid_of a.at k d))
 
-pub returns-then-at-buf : goal.returns-then-at-buf
-returns-then-at-buf c =
+pub returns : goal.returns
+returns c =
     let a = c.args in
     let d = a.buf.now in
     let k = length d - a.at in
-    let call = c.put_decimal-k in
+    let call = c.put_decimal in
     append-part a.at (decimal a.n ++ (a.end ∷ [])) d k call.result call.new.buf (omega arith) refl call.ensures.0 call.ensures.1
 
-pub returns : goal.returns
-returns c =
+pub returns-then-buf-at : goal.returns-then-buf-at
+returns-then-buf-at c =
     let a = c.args in
     append-short a.at (decimal a.n ++ (a.end ∷ [])) a.buf.now (omega arith)

@@ -8,22 +8,22 @@ use Rattle.fields.proofs.Buffer.{grown-is}
 use Rattle.packet_writer.proofs.files.Forms.{closed, laid-grown, front_short, header-stamp, header-plain}
 use Rattle.packet_writer.proofs.files.put_header.Goals as goal
 
-pub returns-in-Present : goal.returns-in-Present
-returns-in-Present c =
+pub returns-in-Some : goal.returns-in-Some
+returns-in-Some c =
     let a = c.args in
     let pre = c.requires in
     let x = c.append_hex-stamped in
     let y = c.append_byte in
     let b = front_short a.name.now a.size pre.1 in
-    let l = hex-length 8 c.in-Present.v in
-    let g = closed (laid-grown c.put_front-next.ensures) (hex 8 c.in-Present.v) x.new.buf y.new.buf x.result y.result (omega (arith, pre)) x.ensures y.ensures in
-    let e = grown-is _ g (header-stamp a.name.now a.size a.stamp c.in-Present.v c.in-Present.is) in
-    let v : c.in-Present.v ≤ 0xFFFFFFFF = omega arith in
-    (e.0, e.1, rw (c.in-Present.is, le-leb c.in-Present.v 0xFFFFFFFF v))
+    let l = hex-length 8 c.in-Some.v in
+    let g = closed (laid-grown c.put_front-next.ensures) (hex 8 c.in-Some.v) x.new.buf y.new.buf x.result y.result (omega (arith, pre)) x.ensures y.ensures in
+    let e = grown-is _ g (header-stamp a.name.now a.size a.stamp c.in-Some.v c.in-Some.is) in
+    let v : c.in-Some.v ≤ 0xFFFFFFFF = omega arith in
+    (e.0, e.1, rw (c.in-Some.is, le-leb c.in-Some.v 0xFFFFFFFF v))
 
-pub returns-in-Absent : goal.returns-in-Absent
-returns-in-Absent c =
+pub returns-in-None : goal.returns-in-None
+returns-in-None c =
     let a = c.args in
-    let s = c.in-Absent.is in
+    let s = c.in-None.is in
     let e = grown-is _ (laid-grown c.put_front-next.ensures) (header-plain a.name.now a.size a.stamp s) in
     (e.0, e.1, rw s)

@@ -5,15 +5,15 @@ use Rattle.records.proofs.Laws.{stamp-bytes, stamp-none, stamp_in_range}
 use Rattle.fields.proofs.Buffer.{append-none}
 use Rattle.records.proofs.record_writer.append_stamp.Goals as goal
 
-pub returns-in-Present : goal.returns-in-Present
-returns-in-Present c =
+pub returns-in-Some : goal.returns-in-Some
+returns-in-Some c =
     let a = c.args in
-    let e = c.in-Present.is in
+    let e = c.in-Some.is in
     (rw (e, stamp-bytes) c.append_little.ensures.0, rw (e, stamp-bytes) c.append_little.ensures.1, stamp_in_range a.stamp _ e (omega arith))
 
-pub returns-in-Absent : goal.returns-in-Absent
-returns-in-Absent c =
+pub returns-in-None : goal.returns-in-None
+returns-in-None c =
     let a = c.args in
-    let e = c.in-Absent.is in
+    let e = c.in-None.is in
     let p = append-none a.at a.buf.now in
     (rw (e, stamp-none) p.0, rw (e, stamp-none) p.1, rw e refl)

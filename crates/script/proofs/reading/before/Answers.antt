@@ -1,9 +1,8 @@
 -- `before` cuts where `find` says. Assumes nothing.
-use mathlib.Core.Path.{◌∙◌}
 use Rattle.fields.proofs.Lists.{take-up_to}
 use Rattle.script.proofs.reading.before.Goals as goal
 
 pub returns : goal.returns
 returns c =
     let a = c.args in
-    c.part.ensures ∙ take-up_to a.x a.s.now c.find.result c.find.ensures.0
+    take-up_to a.x a.s.now c.find.result c.find.ensures.0

@@ -1,23 +1,15 @@
--- `lines_fit` goes by the bytes, as the definition does. Assumes nothing.
-use native.Mathlib.Omega.{arith}
-use mathlib.Core.Path.{sym, ◌∙◌}
-use Rattle.script.proofs.Script.{lines_more, lines-over, lines_end}
+-- `lines_fit` looks at each piece between two line ends. Assumes nothing.
+use Rattle.std.proofs.Common.{rules, ◌∙◌}
+use borrow.Author.Tests.{tests}
+use Rattle.std.proofs.lemmas.Iterator.Search.{all_from_yields_List}
+use Rattle.std.proofs.lemmas.Iterator.Splits.{YieldsList-from_slice_split}
+use Rattle.script.proofs.Words.{is_end, is_short, lines-fit-is}
 use Rattle.script.proofs.reading.lines_fit.Goals as goal
-
-pub returns-then-n-gt-LINE : goal.returns-then-n-gt-LINE
-returns-then-n-gt-LINE c =
-    let s = c.args.s.now in
-    let l = c.loop-i in
-    sym (l.invariant.1.1 ∙ lines-over s l.i l.n c.line_with-n.result (omega arith) c.line_with-n.ensures c.if-n-gt-LINE.true)
-
-pub loop-i-preserved : goal.loop-i-preserved
-loop-i-preserved c =
-    let s = c.args.s.now in
-    let l = c.loop-i in
-    (omega arith, (omega arith, l.invariant.1.1 ∙ lines_more s l.i l.n c.line_with-n.result (omega arith) c.line_with-n.ensures (omega arith)))
 
 pub returns : goal.returns
 returns c =
-    let s = c.args.s.now in
-    let l = c.loop-i in
-    sym (l.invariant.1.1 ∙ lines_end s l.i l.n (omega arith))
+    let a = c.args in
+    all_from_yields_List is_short _ _ _ c.all.ensures.ran
+    (YieldsList-from_slice_split _ is_end a.s.now c.split.ensures.rest c.split.ensures.done c.split.ensures.closure (λ x b q k. search (rules, tests)))
+    (λ x b q k. search (rules, tests))
+    ∙ lines-fit-is a.s.now

@@ -3,4 +3,4 @@ use Rattle.transfer.proofs.BinTurn.{saves-after}
 use Rattle.transfer.proofs.bin_link.end_receiver.Goals as goal
 
 pub returns : goal.returns
-returns c = (saves-after _ _ _ _ _ c.timeout-a.ensures c.saved.ensures, c.bin_receiver_moved.ensures)
+returns g c = saves-after _ _ _ _ _ c.timeout-a.ensures c.saved.ensures

@@ -10,4 +10,4 @@ returns c =
     c.record-got.ensures.0
     c.record_count.ensures
     c.state.ensures
-    c.receiver_number.ensures
+    c.is_success.ensures

@@ -1,37 +1,32 @@
--- A session by its turns: so many were done, so many are left, and a failed write stays one. The measure is the number of turns that are left. Assumes nothing.
+-- A session by its turns: so many were done. Assumes nothing.
 use mathlib.Core.Logic.{inl, inr}
 use mathlib.Core.Path.{refl, sym, ◌∙◌}
 use native.Mathlib.Omega.{arith}
-use Rattle.transfer.proofs.Turns.{starts, goes}
-use Rattle.transfer.proofs.YappTurn.{ends}
-use borrow.Author.Rules.{rules}
-use Rattle.transfer.proofs.yapp_link.session.Goals.{else-loop-rest-test, then-loop-rest-test+then-is_over, then-loop-rest-test+else-is_over+then-failed}
+use Rattle.transfer.specs.YappSession.{turn, is_over_at, saved_at}
+use Rattle.transfer.proofs.Turns.{starts, goes, breaks, ends}
+use Rattle.transfer.proofs.yapp_link.session.Goals.{else-loop-test, then-loop-test+then-is_over}
 use Rattle.transfer.proofs.yapp_link.session.Goals as goal
 
-pub loop-rest-init : goal.loop-rest-init
-loop-rest-init c = (refl, starts _ _ _ _, λ h. h)
+pub loop-init : goal.loop-init
+loop-init g c = starts _ _ _
 
-pub loop-rest-preserved : goal.loop-rest-preserved
-loop-rest-preserved c =
-    let g = c.loop-rest.invariant in (
-      search rules,
-      goes _ _ _ _ _ _ _ _ _
-          g.1
-          g.2
-          (sym c.is_over.ensures ∙ c.if-is_over.false)
-          c.if-failed.false
-          c.turn-e.ensures.0
-          (omega arith),
-      λ h. c.turn-e.ensures.1
-          (g.2 h),
-    )
+pub loop-preserved : goal.loop-preserved
+loop-preserved g c =
+    goes _ _ _ _ _ _ c.loop.invariant (omega (arith, c.loop-test.true)) (sym c.is_over.ensures ∙ c.if-is_over.false) c.turn-t.ensures
+
+pub returns-in_err-show_turn : goal.returns-in_err-show_turn
+returns-in_err-show_turn g c =
+    breaks (turn c.args.file.now) is_over_at saved_at _ _ _ _ _ _ _
+    c.from_residual.ensures.0
+    c.begin-e.ensures
+    (goes _ _ _ _ _ _ c.loop.invariant (omega (arith, c.loop-test.true)) (sym c.is_over.ensures ∙ c.if-is_over.false) c.turn-t.ensures)
+    refl
 
 pub returns : goal.returns
-returns c =
-    let g = c.loop-rest.invariant in
-    ends _ _ _ _ _ _ _ _ _ _ _ _ _
+returns g c =
+    ends (turn c.args.file.now) is_over_at saved_at _ _ _ _ _ _ _
     c.begin-e.ensures
-    g.1
-    (elim c.loop-rest-test.branch [ else-loop-rest-test w ↦ inr (inl (omega (arith, w.loop-rest-test))) | then-loop-rest-test+then-is_over w ↦ inl (sym w.is_over.ensures ∙ w.if-is_over.true) | then-loop-rest-test+else-is_over+then-failed w ↦ inr (inr (c.end_receiver.ensures.1 (c.end_sender.ensures w.if-failed.true))) ])
-    c.end_receiver.ensures.0
-    (λ h. c.end_receiver.ensures.1 (c.end_sender.ensures (g.2 h)))
+    c.loop.invariant
+    refl
+    (elim c.loop-test.branch [ else-loop-test w ↦ inr (omega (arith, w.loop-test, c.loop.auto.counter-end)) | then-loop-test+then-is_over w ↦ inl (sym w.is_over.ensures ∙ w.if-is_over.true) ])
+    c.end_receiver.ensures

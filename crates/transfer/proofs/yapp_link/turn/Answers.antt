@@ -3,13 +3,10 @@ use Rattle.transfer.proofs.YappTurn.{turned}
 use Rattle.transfer.proofs.yapp_link.turn.Goals as goal
 
 pub returns : goal.returns
-returns c = (
-  turned _ _ _ _ _ _ _ _ _
-      c.answer_of-answer.ensures
-      c.passed-came.ensures
-      c.send-a.ensures
-      c.after-sent.ensures
-      c.take.ensures.0,
-  λ h. c.take.ensures.1
-      (c.sender_moved.ensures (c.show_packet.ensures h)),
-)
+returns c =
+    turned _ _ _ _ _ _ _ _ _
+    c.answer_of.ensures
+    c.passed-came.ensures
+    c.send-a.ensures
+    c.after.ensures
+    c.take-ends.ensures

@@ -9,5 +9,5 @@ use Rattle.yapp.proofs.table.receive_action.Goals as goal
 pub returns : goal.returns
 unfolding receive_table table numbers_from action_number look row_r row_rh row_second row_rd row_cw
 returns c =
-    receive-at c.args.state c.args.kind c.receiver_number-row.result c.column_of-column.result
-    c.receiver_number-row.ensures.0 c.column_of-column.ensures.0
+    receive-at c.args.state c.args.kind c.receiver_number.result c.column_of.result
+    c.receiver_number.ensures.0 c.column_of.ensures.0

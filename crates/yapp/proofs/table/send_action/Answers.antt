@@ -9,5 +9,5 @@ use Rattle.yapp.proofs.table.send_action.Goals as goal
 pub returns : goal.returns
 unfolding send_table table numbers_from action_number look row_s row_sh row_sd row_se row_st row_cw
 returns c =
-    send_at c.args.state c.args.kind c.sender_number-row.result c.column_of-column.result
-    c.sender_number-row.ensures.0 c.column_of-column.ensures.0
+    send_at c.args.state c.args.kind c.sender_number.result c.column_of.result
+    c.sender_number.ensures.0 c.column_of.ensures.0

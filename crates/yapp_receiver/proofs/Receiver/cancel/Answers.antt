@@ -7,5 +7,4 @@ pub returns : goal.returns
 unfolding cancel
 returns c =
     let g = c.args in
-    c.unless_refused.ensures (receiver_cancels (now_of g.self) g.area.now g.self.core.state)
-    (rw c.checked.ensures at (c.cancel-step.ensures g.area.now g.self.reader.pending))
+    c.unless_refused.ensures (receiver_cancels (now_of g.self) g.area.now g.self.core.state) (c.cancel.ensures g.area.now g.self.reader.pending)

@@ -11,7 +11,7 @@ replied-requires c =
 pub returns-then-is_taken : goal.returns-then-is_taken
 returns-then-is_taken c =
     let g = c.args in
-    receive-taken g.self g.area.now g.reply.now g.chunk.now c.checked.result c.receive-received.result c.decide-step.result _ _ (taken-by c.check-status.ensures c.is_taken.ensures c.if-is_taken.true) c.checked.ensures c.receive-received.ensures c.decide-step.ensures (λ v. c.replied.ensures v _)
+    receive-taken g.self g.area.now g.reply.now g.chunk.now c.receive-received.result c.decide-step.result _ _ (taken-by c.check-status.ensures c.is_taken.ensures c.if-is_taken.true) c.receive-received.ensures c.decide-step.ensures (λ v. c.replied.ensures v _)
 
 pub returns : goal.returns
 returns c =

@@ -7,5 +7,4 @@ pub returns : goal.returns
 unfolding timeout
 returns c =
     let g = c.args in
-    c.unless_refused.ensures (receiver_times_out (now_of g.self) g.area.now g.self.core.state)
-    (rw c.checked.ensures at (c.timeout-step.ensures g.area.now g.self.reader.pending))
+    c.unless_refused.ensures (receiver_times_out (now_of g.self) g.area.now g.self.core.state) (c.timeout.ensures g.area.now g.self.reader.pending)

@@ -4,6 +4,4 @@ use Rattle.yapp_receiver.proofs.Receiver.transmit.Goals as goal
 
 pub returns : goal.returns
 unfolding transmit
-returns c =
-    let g = c.args in
-    (rw c.check.ensures at (c.unchanged.ensures g.area.now g.reply.now))
+returns c = rw c.check.ensures at (c.unchanged.ensures c.args.area.now c.args.reply.now)

@@ -1,43 +1,37 @@
 -- `store` judges the checksum first, and stores what is within the size. Assumes nothing.
-use mathlib.Core.Path.{ap, sym, ◌∙◌}
-use Prim.Native.Nat.{◌+◌, ◌≤◌}
-use native.Mathlib.Omega.{arith}
+use mathlib.Core.Path.{◌≡◌, sym, ◌∙◌}
+use mathlib.Core.Bool.{true, false}
+use Prim.Native.Nat.{◌+◌}
+use Rattle.std.proofs.lemmas.Bool.{not-true, not-false}
+use lib.Dec.{leb}
 use lib.ListN.{length}
-use borrow.Author.Tests.{leb-true}
-use Rattle.yapp_receiver.specs.Step.{reached}
-use Rattle.yapp_receiver.proofs.block.Laws.{no_block, stores-unsound, stores-past, stores-within}
+use Rattle.fields.specs.Lists.{bytes_at}
+use Rattle.calls.specs.Saving.{saved_by, kept_of, size_of}
+use Rattle.packets.specs.Content.{content_of}
+use Rattle.packets.specs.Data.{on_block}
+use Rattle.yapp.specs.Steps.{stores}
+use Rattle.yapp_receiver.proofs.block.Laws.{grown_kept, grown_name}
 use Rattle.yapp_receiver.proofs.block.store.Goals as goal
 
-pub returns-in_default : goal.returns-in_default
-returns-in_default c p =
-    let g = c.args in
-    ap (reached g.name.now) (no_block g.pending.now _ _ g.packet c.in_default.not-DT)
-    ∙ c.stay.ensures g.area.now p
+pub returns-then-not-block : goal.returns-then-not-block
+unfolding content_of on_block stores
+returns-then-not-block c p =
+    let unsound : c.in-DT.block.sound ≡ false = not-true _ c.if-not-block.true in
+    rw (c.in-DT.is, unsound) (c.fail.ensures c.args.area.now p)
 
-pub overflow_cast-n : goal.overflow_cast-n
-overflow_cast-n c =
-    let z : c.kept_of-kept.result + length c.bytes_at-bytes.result.now ≤ c.size_of-size.result = leb-true _ _ (sym c.fits-within.ensures ∙ c.if-within.true) in
-    omega arith
-
-pub overflow_add-kept : goal.overflow_add-kept
-overflow_add-kept c =
-    let z : c.kept_of-kept.result + length c.bytes_at-bytes.result.now ≤ c.size_of-size.result = leb-true _ _ (sym c.fits-within.ensures ∙ c.if-within.true) in
-    omega arith
-
-pub returns-then-within : goal.returns-then-within
-returns-then-within c p =
-    let g = c.args in
-    rw (c.grow.ensures, c.append_bytes.ensures.1)
-    (stores-within g.core g.checked g.name.now g.area.now g.pending.now g.packet _ c.in-DT.is _ _ _ c.bytes_at-bytes.ensures (c.kept_of-kept.ensures g.name.now) (c.size_of-size.ensures g.name.now) c.if-block.true (sym c.fits-within.ensures ∙ c.if-within.true) p)
-
-pub returns-then-block : goal.returns-then-block
-returns-then-block c p =
-    let g = c.args in
-    ap (reached g.name.now) (stores-past g.core g.checked g.name.now g.area.now g.pending.now g.packet _ c.in-DT.is _ _ _ c.bytes_at-bytes.ensures (c.kept_of-kept.ensures g.name.now) (c.size_of-size.ensures g.name.now) c.if-block.true (sym c.fits-within.ensures ∙ c.if-within.false))
-    ∙ c.fail.ensures g.area.now p
+pub returns-then-not-fits : goal.returns-then-not-fits
+unfolding content_of on_block stores
+returns-then-not-fits c p =
+    let m = c.args.receiver.now in
+    let past : leb (kept_of (saved_by m.core.keeping m.name) + length (bytes_at c.args.pending.now c.in-DT.block.place)) (size_of (saved_by m.core.keeping m.name)) ≡ false = rw (c.bytes_at-bytes.ensures, (c.counts-kept.ensures m.name).0, (c.counts-kept.ensures m.name).1) at (sym c.fits.ensures ∙ c.if-not-fits.true) in
+    let sound : c.in-DT.block.sound ≡ true = not-false _ c.if-not-block.false in
+    rw (c.in-DT.is, sound, past) (c.fail-then-not-fits.ensures c.args.area.now p)
 
 pub returns : goal.returns
+unfolding content_of on_block stores
 returns c p =
-    let g = c.args in
-    ap (reached g.name.now) (stores-unsound g.core g.checked g.name.now g.area.now g.pending.now g.packet _ c.in-DT.is c.if-block.false)
-    ∙ c.fail-2.ensures g.area.now p
+    let m = c.args.receiver.now in
+    let n = length (bytes_at c.args.pending.now c.in-DT.block.place) in
+    let within : leb (kept_of (saved_by m.core.keeping m.name) + n) (size_of (saved_by m.core.keeping m.name)) ≡ true = rw (c.bytes_at-bytes.ensures, (c.counts-kept.ensures m.name).0, (c.counts-kept.ensures m.name).1) at (sym c.fits.ensures ∙ c.if-not-fits.false) in
+    let sound : c.in-DT.block.sound ≡ true = not-false _ c.if-not-block.false in
+    rw (c.grow.ensures, c.append_bytes.ensures.1, c.bytes_at-bytes.ensures, (c.counts-kept.ensures m.name).0, c.in-DT.is, sound, within, grown_kept m.name m.core.keeping n, grown_name m.name m.core.keeping n)

@@ -1,18 +1,16 @@
 -- `cancel` goes by the state. Assumes nothing.
-use mathlib.Core.Path.{ap, sym, ◌∙◌}
-use Rattle.yapp_receiver.specs.Receiver.{now_by}
+use mathlib.Core.Path.{ap, ◌∙◌}
+use Rattle.yapp_receiver.specs.Receiver.{now_of}
 use Rattle.yapp_receiver.specs.Step.{reached}
-use Rattle.yapp_receiver.proofs.events.Laws.{stops-open, stops-rest}
+use Rattle.yapp_receiver.proofs.events.Laws.{stops, stops_none}
 use Rattle.yapp_receiver.proofs.events.cancel.Goals as goal
 
-pub returns-then-is_open : goal.returns-then-is_open
-returns-then-is_open c a p =
-    let g = c.args in
-    ap (reached g.name.now) (stops-open (now_by g.core g.checked g.name.now) a g.core.state (sym c.is_open.ensures ∙ c.if-is_open.true))
-    ∙ c.fail.ensures a p
+pub returns-in-R : goal.returns-in-R
+returns-in-R c a p =
+    let m = c.args.receiver.now in
+    ap (reached m.name) (stops (now_of m) a m.core.state c.in-R.is) ∙ c.fail.ensures a p
 
-pub returns : goal.returns
-returns c a p =
-    let g = c.args in
-    ap (reached g.name.now) (stops-rest (now_by g.core g.checked g.name.now) a g.core.state (sym c.is_open.ensures ∙ c.if-is_open.false))
-    ∙ c.stay.ensures a p
+pub returns-in-CW : goal.returns-in-CW
+returns-in-CW c a p =
+    let m = c.args.receiver.now in
+    ap (reached m.name) (stops_none (now_of m) a m.core.state c.in-CW.is) ∙ c.stay.ensures a p

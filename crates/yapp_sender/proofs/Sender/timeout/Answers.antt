@@ -1,5 +1,13 @@
--- The timer ran out. Assumes nothing.
+-- `timeout` is its event's step. Assumes nothing.
+use mathlib.Core.Path.{ap, sym, ◌∙◌}
+use Rattle.fields.specs.Lists.{nowhere}
+use Rattle.yapp.specs.Steps.{SenderMove}
+use Rattle.yapp_sender.specs.Sender.{timeout, replied, status_of, unless_refused}
 use Rattle.yapp_sender.proofs.Sender.timeout.Goals as goal
 
 pub returns : goal.returns
-returns c = c.on_event.ensures
+unfolding timeout
+returns c =
+    let a = c.args in
+    ap (λ (w : SenderMove). unless_refused (status_of a.self a.file.now a.reply.now) a.self a.reply.now (replied a.self a.self.reader 0 nowhere w a.reply.now)) (sym (c.timeout.ensures a.file.now))
+    ∙ c.unless_refused.ensures

@@ -1,8 +1,0 @@
--- `line_fault` is what the table finds. Assumes nothing.
-use mathlib.Core.Path.{◌∙◌, ap}
-use Rattle.faults.specs.Faults.{fault_in, check_line}
-use Rattle.faults.proofs.line_fault.Goals as goal
-
-pub returns : goal.returns
-unfolding check_line
-returns c = c.fault_in.ensures ∙ ap fault_in c.check_from.ensures

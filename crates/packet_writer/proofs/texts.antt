@@ -1,2 +1,0 @@
--- Laws of the forms of packets.
-mod Forms

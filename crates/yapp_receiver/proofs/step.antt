@@ -1,2 +1,0 @@
--- Laws that the proofs of this module cite.
-pub mod Laws

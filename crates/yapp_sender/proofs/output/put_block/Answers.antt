@@ -1,8 +1,0 @@
--- DT stands at the front of the reply buffer. Assumes nothing.
-use Rattle.packets.specs.Content.{form_of}
-use Rattle.yapp_sender.proofs.output.Laying.{put_one}
-use Rattle.yapp_sender.proofs.output.put_block.Goals as goal
-
-pub returns : goal.returns
-unfolding form_of
-returns c = put_one _ _ _ _ _ _ _ c.requires c.count.ensures c.write_dt.ensures (rw c.part-data.ensures)
