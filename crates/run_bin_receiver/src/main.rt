@@ -58,7 +58,7 @@ fn show<W: Write>(out: &mut W, got: ReceiverAnswer, frame: &[u8], reply: &[u8]) 
 
 // ---- Beginnings
 
-// The reading that the word at this index says.
+// The reading that the word at this index says. In both programs of #BIN#, which share no crate that knows of readings.
 fn reading_at(line: &[u8], i: usize) -> Reading {
     match word(line, i) {
         b"augmented" => Reading::Augmented,
@@ -151,6 +151,7 @@ fn turn<W: Write>(out: &mut W, p: Play, line: &[u8]) -> io::Result<Play> {
     act(out, p, line, &mut [0xEE; 259])
 }
 
+// Alike in the four programs but for the end: a trait over it could promise nothing of what is printed.
 fn run<W: Write>(out: &mut W, script: &[u8]) -> io::Result<()> {
     let mut p = Play {
         receiver: Receiver::fresh(32, false, Reading::Bare),

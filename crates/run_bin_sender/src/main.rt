@@ -40,7 +40,7 @@ fn show<W: Write>(out: &mut W, got: SenderAnswer, reply: &[u8]) -> io::Result<()
 
 // ---- Beginnings
 
-// The reading that the word at this index says.
+// The reading that the word at this index says. In both programs of #BIN#, which share no crate that knows of readings.
 fn reading_at(line: &[u8], i: usize) -> Reading {
     match word(line, i) {
         b"augmented" => Reading::Augmented,
@@ -131,6 +131,7 @@ fn turn<W: Write>(out: &mut W, m: Sender, line: &[u8], file: &[u8]) -> io::Resul
     act(out, m, line, file, &mut [0xEE; 259])
 }
 
+// Alike in the four programs but for the end: a trait over it could promise nothing of what is printed.
 fn run<W: Write>(out: &mut W, script: &[u8]) -> io::Result<()> {
     let mut file = [0u8; 1200];
     let mut size = 0;

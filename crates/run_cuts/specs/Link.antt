@@ -1,5 +1,5 @@
 -- What a session over a link that breaks leaves, and what is asked of it.
-use Rattle.std.specs.Prelude.{ℕ, zero, suc, ◌-◌, min, Bool, ◌&&◌, List, [], ◌∷◌, length, take, replicate, leb, eqb, Option, Some}
+use Rattle.std.specs.Prelude.{ℕ, zero, suc, ◌-◌, min, Bool, ◌&&◌, List, [], ◌∷◌, length, take, replicate, leb, eqb, Option, None, Some}
 use Rattle.fields.specs.Pick.{pick}
 use Rattle.fields.specs.Lists.{same}
 use Rattle.fields.specs.Buffer.{Form, placed}
@@ -7,6 +7,10 @@ use Rattle.records.specs.Record.{number_at}
 use Rattle.records.specs.Saved.{saved, record_bytes}
 use Rattle.calls.specs.Count.{record_count}
 use Rattle.calls.specs.Recording.{record_answer, record_left}
+use Rattle.calls.specs.Numbers.{outcome_number}
+use Rattle.calls.specs.declared.Outcome.{Outcome}
+use Rattle.run_cuts.specs.declared.link.Ends.{Ends}
+use Rattle.run_cuts.specs.declared.link.Moved.{Moved}
 use Rattle.run_cuts.specs.declared.link.Saved.{Saved}
 use Rattle.run_cuts.specs.declared.link.Link.{Link}
 
@@ -64,6 +68,63 @@ carries l = l.left - l.answered
 unfoldable pub turns : {A : Type 0} → (A → A) → ℕ → A → A
 turns turn zero ends = ends
 turns turn (suc n) ends = turn (turns turn n ends)
+
+-- ---- a turn
+
+-- what a call leaves of the sender, and of the buffer for what it sends
+pub record Sent (S : Type 0) : Type 0 where
+  pub moved : Moved S
+  pub reply : List ℕ
+
+-- what a call leaves of the receiver, of the area, and of the buffer for its answer
+pub record Taken (R : Type 0) : Type 0 where
+  pub moved : Moved R
+  pub area : List ℕ
+  pub reply : List ℕ
+
+-- by what was answered, what came of it, the file and the buffer
+abbrev pub Sends : Type 0 → Type 0
+Sends S = S → ℕ → List ℕ → List ℕ → List ℕ → Sent S
+
+-- by what came, the area and the buffer
+abbrev pub Takes : Type 0 → Type 0
+Takes R = R → List ℕ → List ℕ → List ℕ → Taken R
+
+-- what stands after both calls, over a link that carries so many bytes after the receiver's last answer
+abbrev pub standing : {S R : Type 0} → ℕ → Sent S → Taken R → Ends S R
+standing left s r = record {
+  sender = s.moved.end;
+  receiver = r.moved.end;
+  link = record { area = r.area; to = s.reply; back = r.reply; answered = r.moved.sent; left = left - s.moved.sent };
+}
+
+-- the receiver gets what came of what was sent
+abbrev pub received : {S R : Type 0} → Takes R → Ends S R → ℕ → Sent S → Ends S R
+received takes e left s = standing left s (takes e.receiver (passed s.moved.sent left s.reply) e.link.area e.link.back)
+
+-- what was answered goes over the link, and then what the sender sends
+unfoldable pub turn : {S R : Type 0} → Sends S → Takes R → List ℕ → Ends S R → Ends S R
+turn sends takes file e = received takes e (carries e.link) (sends e.sender e.link.answered (heard e.link) file e.link.to)
+
+-- ---- the end
+
+-- what a receiver's record is
+abbrev pub Records : Type 0 → Type 0
+Records R = R → Option Form
+
+-- how an end ended, if it has
+abbrev pub Ended : Type 0 → Type 0
+Ended E = E → Option Outcome
+
+-- the number that an end ended with
+abbrev pub number : Option Outcome → ℕ
+number None = running
+number (Some o) = outcome_number o
+
+-- what the ends leave
+unfoldable pub saved_after : {S R : Type 0} → Records R → Ended S → Ended R → Ends S R → Saved
+saved_after records sender receiver e =
+    saved_with e.link.area (records e.receiver) (number (sender e.sender)) (number (receiver e.receiver))
 
 -- ---- what is asked
 

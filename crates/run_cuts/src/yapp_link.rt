@@ -1,22 +1,14 @@
 // A YAPP sender and a YAPP receiver, and the link between them.
 ghost use Rattle.std.specs.Prelude.{◌≡◌};
-ghost use Rattle.yapp_receiver.specs.Receiver.{receive as receive_of};
-ghost use Rattle.run_cuts.specs.YappLink.{receiver_of, begin as begin_of, send as send_of, turn as turn_of, sender_number, receiver_number, saved_after, session as session_of};
+ghost use Rattle.yapp_receiver.specs.Receiver.{record_by};
+ghost use Rattle.run_cuts.specs.YappLink.{receiver_of, begin as begin_of, sends, takes, sender_ended, receiver_ended, session as session_of};
 
 use crate::link;
-use crate::link::{Link, Saved};
-use calls::outcomes;
+use crate::link::{Ends, Moved, Receiving, Saved, Sending};
+use calls::Outcome;
 use yapp::{ReceiverState, SenderState};
-use yapp_receiver::{Receiver, ReceiverAnswer};
-use yapp_sender::{Sender, SenderAnswer};
-
-// What stands between two turns.
-#[derive(Clone, Copy)]
-struct Ends {
-    sender: Sender,
-    receiver: Receiver,
-    link: Link,
-}
+use yapp_receiver::Receiver;
+use yapp_sender::Sender;
 
 #[tactic(auto, unfolding(crate::specs::YappLink::receiver_of))]
 fn receiver_of(s: Saved, checks: bool) -> Receiver
@@ -29,7 +21,7 @@ fn receiver_of(s: Saved, checks: bool) -> Receiver
 }
 
 #[tactic(auto, unfolding(crate::specs::YappLink::begin))]
-fn begin(before: Saved, bytes: usize, checks: bool, size: usize) -> Ends
+fn begin(before: Saved, bytes: usize, checks: bool, size: usize) -> Ends<Sender, Receiver>
     ensures { result ≡ begin_of before bytes checks size }
 {
     Ends {
@@ -39,90 +31,66 @@ fn begin(before: Saved, bytes: usize, checks: bool, size: usize) -> Ends
     }
 }
 
-// The sender gets what came of the answer; where nothing was answered, it may send.
-#[tactic(auto, unfolding(crate::specs::YappLink::send))]
-fn send(m: Sender, answered: usize, heard: &[u8], file: &[u8], out: &mut [u8; 259]) -> SenderAnswer
-    ensures { send_of m answered heard.now file.now out.old ≡ record { answer = result; reply = out.new } }
-{
-    if answered == 0 {
-        return m.transmit(file, out);
+impl Sending for Sender {
+    ghost sends = { sends };
+
+    ghost ended_of = { sender_ended };
+
+    #[tactic(auto, unfolding(crate::specs::YappLink::sends))]
+    fn send(self, answered: usize, heard: &[u8], file: &[u8], out: &mut [u8; 259]) -> Moved<Self> {
+        let a = if answered == 0 {
+            self.transmit(file, out)
+        } else {
+            self.receive(heard, file, out)
+        };
+        Moved {
+            end: a.sender,
+            sent: a.sent,
+        }
     }
-    m.receive(heard, file, out)
-}
 
-// The receiver gets what came of what was sent.
-fn take(m: Receiver, came: &[u8], area: &mut [u8; 320], out: &mut [u8; 259]) -> ReceiverAnswer
-    ensures { receive_of m came.now area.old out.old ≡ record { answer = result; area = area.new; reply = out.new } }
-{
-    m.receive(came, area, out)
-}
-
-fn turn(e: Ends, file: &[u8]) -> Ends
-    ensures { result ≡ turn_of file.now e }
-{
-    let l = e.link;
-    let mut area = l.area;
-    let mut to = l.to;
-    let mut back = l.back;
-    let heard = link::passed(&back, l.answered, l.left);
-    let a = send(e.sender, l.answered, heard, file, &mut to);
-    let left = l.left.saturating_sub(l.answered);
-    let came = link::passed(&to, a.sent, left);
-    let b = take(e.receiver, came, &mut area, &mut back);
-    Ends {
-        sender: a.sender,
-        receiver: b.receiver,
-        link: Link {
-            area,
-            to,
-            back,
-            answered: b.sent,
-            left: left.saturating_sub(a.sent),
-        },
+    fn ended(self) -> Option<Outcome> {
+        match self.state() {
+            SenderState::Ended { outcome } => Some(outcome),
+            _ => None,
+        }
     }
 }
 
-fn sender_number(state: SenderState) -> u8
-    ensures { result ≡ sender_number state }
-{
-    match state {
-        SenderState::Ended { outcome } => outcomes::outcome_number(outcome),
-        _ => link::RUNNING,
-    }
-}
+impl Receiving for Receiver {
+    ghost takes = { takes };
 
-fn receiver_number(state: ReceiverState) -> u8
-    ensures { result ≡ receiver_number state }
-{
-    match state {
-        ReceiverState::Ended { outcome } => outcomes::outcome_number(outcome),
-        _ => link::RUNNING,
-    }
-}
+    ghost records = { record_by };
 
-fn saved_after(e: Ends) -> Saved
-    ensures { result ≡ saved_after e }
-{
-    let area = e.link.area;
-    let mut bytes = [0u8; 81];
-    let got = e.receiver.record(&mut bytes);
-    Saved {
-        area,
-        bytes,
-        len: calls::record_count(got),
-        sender: sender_number(e.sender.state()),
-        receiver: receiver_number(e.receiver.state()),
+    ghost ended_of = { receiver_ended };
+
+    #[tactic(auto, unfolding(crate::specs::YappLink::takes))]
+    fn take(self, came: &[u8], area: &mut [u8; 320], out: &mut [u8; 259]) -> Moved<Self> {
+        let b = self.receive(came, area, out);
+        Moved {
+            end: b.receiver,
+            sent: b.sent,
+        }
+    }
+
+    fn put_record(self, out: &mut [u8; 81]) -> usize {
+        calls::record_count(self.record(out))
+    }
+
+    fn ended(self) -> Option<Outcome> {
+        match self.state() {
+            ReceiverState::Ended { outcome } => Some(outcome),
+            _ => None,
+        }
     }
 }
 
 // Goes on from what a session left. So many bytes pass before the link breaks.
 // SI, HD, a turn to hear what came of it, a DT for each of three blocks, EF, ET, and a turn to hear what came of it.
+#[tactic(auto, unfolding(crate::specs::YappLink::session))]
 pub fn session(before: Saved, bytes: usize, checks: bool, file: &[u8]) -> Saved
     ensures { result ≡ session_of before bytes checks file.now }
 {
-    let mut e = begin(before, bytes, checks, file.len());
-    for _ in 0..9u8 {
-        e = turn(e, file);
-    }
-    saved_after(e)
+    let e = begin(before, bytes, checks, file.len());
+    link::session(e, 9, file)
 }

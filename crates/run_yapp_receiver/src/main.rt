@@ -145,6 +145,7 @@ fn turn<W: Write>(out: &mut W, p: Play, line: &[u8]) -> io::Result<Play> {
     act(out, p, line, &mut [0xEE; 259])
 }
 
+// Alike in the four programs but for the end: a trait over it could promise nothing of what is printed.
 fn run<W: Write>(out: &mut W, script: &[u8]) -> io::Result<()> {
     let mut p = Play {
         receiver: Receiver::fresh(320, false, false),

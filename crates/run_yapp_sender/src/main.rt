@@ -137,6 +137,7 @@ fn turn<W: Write>(out: &mut W, m: Sender, line: &[u8], file: &[u8]) -> io::Resul
     act(out, m, line, file, &mut [0xEE; 259])
 }
 
+// Alike in the four programs but for the end: a trait over it could promise nothing of what is printed.
 fn run<W: Write>(out: &mut W, script: &[u8]) -> io::Result<()> {
     let mut file = [0u8; 1200];
     let mut size = 0;

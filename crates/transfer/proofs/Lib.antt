@@ -1,5 +1,3 @@
 -- Laws that this program's proofs cite.
 pub mod Zeros
 pub mod Turns
-pub mod YappTurn
-pub mod BinTurn

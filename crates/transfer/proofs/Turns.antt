@@ -1,6 +1,6 @@
 -- A session by its turns: what its loop keeps, and what follows where it stops. Assumes nothing.
 use Prim.Native.Nat.{ℕ, suc, ◌+◌, ◌<◌}
-use mathlib.Core.Path.{◌≡◌, refl, subst, ap, ◌∙◌}
+use mathlib.Core.Path.{◌≡◌, refl, sym, ap, ◌∙◌}
 use mathlib.Core.Bool.{Bool, false}
 use mathlib.Core.List.{List}
 use mathlib.Core.Logic.{⊎_elim}
@@ -18,47 +18,30 @@ module _ {A : Type 0} (turn : A → A) (is_over : A → Bool) (start : A) where
   starts = record { bounded = omega arith; reached = refl; going = λ k h. absurd (omega arith) }
 
   -- one turn more, where it is not over
-  pub goes : (a b : A) (count : ℕ) → Reached turn is_over start count a → count < most_turns → is_over a ≡ false → turn a ≡ b
+  pub goes : (a b : A) (count : ℕ) (over : Bool) → Reached turn is_over start count a → count < most_turns → over ≡ is_over a → over ≡ false → turn a ≡ b
       → Reached turn is_over start (count + 1) b
   unfolding turns
-  goes a b count g m o t =
+  goes a b count over g m i o t =
       rw add-one (record {
         bounded = omega arith;
         reached = ap turn g.reached ∙ t;
         going = λ (k : ℕ) (h : k < suc count).
             ⊎_elim
-            (λ (e : k ≡ count). rw e (ap is_over g.reached ∙ o))
+            (λ (e : k ≡ count). rw e (ap is_over g.reached ∙ sym i ∙ o))
             (λ (n : k ≡ count → ⊥). g.going k (omega (arith, n)))
             (eq-or-not k count);
       })
 
 module _ {E F : Type 0} (turn : Standing E → Standing E) (is_over : Standing E → Bool) (saved_at : Standing E → Saved) where
   -- where a write failed
-  pub breaks : (start begun : E) (area : List ℕ) (last : Standing E) (count : ℕ) (result : Result Saved F) (kept : List ℕ) → IsErr result
-      → begun ≡ start → Reached turn is_over (record { ends = begun; area = area }) count last → kept ≡ last.area
-      → Answered turn is_over saved_at (record { ends = start; area = area }) result kept
-  breaks start begun area last count result kept f b g k =
-      MatchResult-from_err result _ _ f (λ why. record {
-        count = count;
-        last = last;
-        after = subst (λ (x : E). Reached turn is_over (record { ends = x; area = area }) count last) b g;
-        keeps = k;
-      })
+  pub breaks : (start last : Standing E) (count : ℕ) (result : Result Saved F) (kept : List ℕ) → IsErr result
+      → Reached turn is_over start count last → kept ≡ last.area → Answered turn is_over saved_at start result kept
+  breaks start last count result kept f g k =
+      MatchResult-from_err result _ _ f (λ why. record { count = count; last = last; after = g; keeps = k })
 
   -- where the loop is left, and both ends are stopped
-  pub ends : (start begun : E) (area : List ℕ) (last : Standing E) (count : ℕ) (result : Result Saved F) (kept : List ℕ)
-      → begun ≡ start → Reached turn is_over (record { ends = begun; area = area }) count last → kept ≡ last.area
-      → Why (is_over last) count → IfOk result (λ s. s ≡ saved_at last)
-      → Answered turn is_over saved_at (record { ends = start; area = area }) result kept
-  ends start begun area last count (Ok s) kept b g k w l =
-      record {
-        last = last;
-        stopped = record {
-          count = count;
-          after = subst (λ (x : E). Reached turn is_over (record { ends = x; area = area }) count last) b g;
-          why = w;
-        };
-        saves = l;
-        keeps = k;
-      }
-  ends start begun area last count (Err why) kept b g k w l = breaks start begun area last count (Err why) kept refl b g k
+  pub ends : (start last : Standing E) (count : ℕ) (result : Result Saved F) (kept : List ℕ) → Reached turn is_over start count last
+      → kept ≡ last.area → Why (is_over last) count → IfOk result (λ s. s ≡ saved_at last) → Answered turn is_over saved_at start result kept
+  ends start last count (Ok s) kept g k w l =
+      record { last = last; stopped = record { count = count; after = g; why = w }; saves = l; keeps = k }
+  ends start last count (Err why) kept g k w l = breaks start last count (Err why) kept refl g k

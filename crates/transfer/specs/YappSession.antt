@@ -1,5 +1,5 @@
--- A session of YAPP over the program's link: one turn, the beginning, and what is left at the end. The reply buffers are 259 zeros each time.
-use Rattle.std.specs.Prelude.{ℕ, ◌&&◌, ◌||◌, Bool, true, false, List, length, take, replicate, eqb, None, Option, Result, Some}
+-- A session of YAPP over the program's link: what its ends do in a turn, the beginning, and what is left at the end. The reply buffers are 259 zeros each time.
+use Rattle.std.specs.Prelude.{ℕ, ◌&&◌, Bool, true, false, List, length, take, replicate, eqb, None, Option, Result, Some}
 use Rattle.fields.specs.Pick.{pick}
 use Rattle.calls.specs.Recording.{record_answer, record_left}
 use Rattle.yapp.specs.declared.ReceiverState.{ReceiverState}
@@ -10,11 +10,10 @@ use Rattle.yapp_sender.specs.Sender.{SenderAfter, begin as begin_sender, transmi
 use Rattle.yapp_receiver.specs.declared.Receiver.{Receiver}
 use Rattle.yapp_receiver.specs.Receiver.{ReceiverAfter, fresh, resume, receive as receiver_receives, timeout, record_by}
 use Rattle.calls.specs.Count.{record_count}
-use Rattle.transfer.specs.Link.{file_stamp, whole, after, with_answer, is_success as outcome_is_success, passed}
-use Rattle.transfer.specs.Session.{Standing, Answered}
-use Rattle.transfer.specs.declared.link.Link.{Link}
+use Rattle.transfer.specs.Link.{file_stamp, whole, is_success as outcome_is_success}
+use Rattle.transfer.specs.Session.{Sent, Taken, turn, is_over, saved_at, Answered}
 use Rattle.transfer.specs.declared.link.Saved.{Saved}
-use Rattle.transfer.specs.declared.yapp_link.Ends.{Ends}
+use Rattle.transfer.specs.declared.yapp_link.YappEnds.{YappEnds}
 
 -- ---- a turn
 
@@ -22,28 +21,18 @@ use Rattle.transfer.specs.declared.yapp_link.Ends.{Ends}
 abbrev pub sends : Sender → ℕ → List ℕ → List ℕ → List ℕ → SenderAfter
 sends m answered came file reply = pick (eqb answered 0) (transmit m file reply) (sender_receives m came file reply)
 
--- the ends behind what the sender and then the receiver did
-abbrev pub standing : SenderAfter → Link → ReceiverAfter → Standing Ends
-standing s l b = record {
-  ends = record {
-    sender = s.answer.sender;
-    receiver = b.answer.receiver;
-    link = with_answer (after l s.answer.sent) b.answer.sent b.reply;
-  };
-  area = b.area;
-}
+abbrev pub sent_by : Receiver → SenderAfter → Sent YappEnds
+sent_by m s = record { ends = record { sender = s.answer.sender; receiver = m }; count = s.answer.sent; bytes = s.reply }
 
--- what the sender sent goes over the link to the receiver
-unfoldable pub carried : Receiver → SenderAfter → Link → List ℕ → Standing Ends
-carried m s l area = standing s l (receiver_receives m (passed l (take s.answer.sent s.reply)) area (replicate 259 0))
+unfoldable pub sent : YappEnds → ℕ → List ℕ → List ℕ → Sent YappEnds
+sent e answered came file = sent_by e.receiver (sends e.sender answered came file (replicate 259 0))
 
--- the receiver's last answer goes over the link to the sender, and what that sends to the receiver
-unfoldable pub turn : List ℕ → Standing Ends → Standing Ends
-turn file st =
-    carried st.ends.receiver
-    (sends st.ends.sender st.ends.link.answered
-    (passed st.ends.link (take st.ends.link.answered st.ends.link.back)) file (replicate 259 0))
-    (after st.ends.link st.ends.link.answered) st.area
+-- the receiver takes what came of what the sender sent
+abbrev pub taken_by : Sender → ReceiverAfter → Taken YappEnds
+taken_by m r = record { ends = record { sender = m; receiver = r.answer.receiver }; count = r.answer.sent; bytes = r.reply; area = r.area }
+
+unfoldable pub taken : YappEnds → List ℕ → List ℕ → Taken YappEnds
+taken e came area = taken_by e.sender (receiver_receives e.receiver came area (replicate 259 0))
 
 -- ---- the beginning
 
@@ -56,22 +45,18 @@ receiver_of before room checks =
 abbrev pub stamp_of : Bool → Option ℕ
 stamp_of checks = pick checks (Some file_stamp) None
 
--- blocks of 256 bytes, and both ends resume; the link carries any number of a packet's bytes
-unfoldable pub begin : Saved → Bool → List ℕ → ℕ → ℕ → ℕ → Ends
-begin before checks name left size room = record {
+-- blocks of 256 bytes, and both ends resume
+unfoldable pub begin : Saved → Bool → List ℕ → ℕ → ℕ → YappEnds
+begin before checks name size room = record {
   sender = begin_sender name size 256 (stamp_of checks) true;
   receiver = receiver_of before room checks;
-  link = whole left false;
 }
 
 -- ---- the end
 
--- the link is broken, or both ends have ended
-unfoldable pub is_over : Ends → Bool
-is_over e = e.link.broken || (receiver_ended e.receiver.core.state && sender_ended e.sender.core.state)
-
-abbrev pub is_over_at : Standing Ends → Bool
-is_over_at st = is_over st.ends
+-- both ends have ended
+unfoldable pub have_ended : YappEnds → Bool
+have_ended e = receiver_ended e.receiver.core.state && sender_ended e.sender.core.state
 
 -- the receiver has ended with success
 abbrev pub is_success : ReceiverState → Bool
@@ -97,11 +82,8 @@ timed_out m area = (timeout m area (replicate 259 0)).answer.receiver
 unfoldable pub saved_after : Receiver → List ℕ → Saved
 saved_after m area = saved_of (timed_out (timed_out m area) area)
 
-abbrev pub saved_at : Standing Ends → Saved
-saved_at st = saved_after st.ends.receiver st.area
-
--- a session from what the one before left
+-- a session from what the one before left; the link carries any number of a packet's bytes
 abbrev pub Session : {F : Type 0} → Saved → Bool → List ℕ → ℕ → List ℕ → List ℕ → Result Saved F → List ℕ → Type 0
 Session before checks name bytes file area result kept =
-    Answered (turn file) is_over_at saved_at
-    (record { ends = begin before checks name bytes (length file) (length area); area = area }) result kept
+    Answered (turn sent taken file) (is_over have_ended) (saved_at (λ e. saved_after e.receiver))
+    (record { ends = begin before checks name (length file) (length area); link = whole bytes false; area = area }) result kept

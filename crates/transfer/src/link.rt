@@ -85,11 +85,11 @@ pub fn with_answer(link: Link, answered: usize, back: [u8; 259]) -> Link
     }
 }
 
-// What the receiver answered last, where back is the link's.
-pub fn answer_of(link: Link, back: &[u8; 259]) -> &[u8]
-    ensures { result.now ≡ take link.answered back.now }
+// What the receiver answered last.
+pub fn answer_of(link: &Link) -> &[u8]
+    ensures { result.now ≡ take link.now.answered link.now.back }
 {
-    fields::part(back, 0, link.answered)
+    fields::part(&link.back, 0, link.answered)
 }
 
 // What passes of a frame: all of it, or none.

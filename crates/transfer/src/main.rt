@@ -9,13 +9,14 @@ ghost use Rattle.std.specs.Prelude.{◌≡◌, length};
 use fields::names;
 use link::Saved;
 use numbers::digit_reader;
-use records::record_reader;
+use records::{Record, record_reader};
 use std::fs::File;
 use std::io::{Read, Write};
 use std::process::ExitCode;
 use std::{env, io};
 
 mod bin_link;
+mod ends;
 mod link;
 mod text;
 mod yapp_link;
@@ -86,9 +87,7 @@ fn print_record<W: Write>(out: &mut W, saved: Saved) -> io::Result<()> {
         return writeln!(out, "  no record");
     }
     match record_reader::record_of(fields::part(&bytes, 0, count)) {
-        Some(r) => {
-            let kept = r.kept;
-            let size = r.size;
+        Some(Record { kept, size, .. }) => {
             writeln!(out, "  record of {count} bytes: kept {kept} of {size}")
         }
         None => writeln!(out, "  record unreadable"),
@@ -204,10 +203,8 @@ fn all_ways<W: Write>(out: &mut W, name: &[u8], seed: u64, file: &[u8]) -> io::R
 
 // An error's words, without the number that std puts behind them.
 fn words_of(text: &str) -> &str {
-    match text.split_once(" (os error ") {
-        Some((words, _)) => words,
-        None => text,
-    }
+    text.split_once(" (os error ")
+        .map_or(text, |(words, _)| words)
 }
 
 // Says what failed, and why. Where there is no memory for the words, std's own stand there.

@@ -1,11 +1,11 @@
-// A YAPP sender and a YAPP receiver, and the link between them.
-ghost use Rattle.std.specs.Prelude.{◌≡◌, IfOk};
-ghost use Rattle.yapp.specs.Steps.{sender_ended, receiver_ended};
-ghost use Rattle.transfer.specs.YappSession.{sends, carried, turn as turn_of, receiver_of, stamp_of, begin as begin_of, is_over, is_success, saved_of, timed_out, saved_after, Session};
+// A YAPP sender and a YAPP receiver.
+ghost use Rattle.std.specs.Prelude.{◌≡◌};
+ghost use Rattle.transfer.specs.YappSession.{sends, sent, taken, have_ended, receiver_of, stamp_of, begin as begin_of, is_success, saved_of, timed_out, saved_after, Session};
 
-use crate::link::{Link, MOST_TURNS, Saved};
+use crate::ends::{Ends, Sent};
+use crate::link::Saved;
 use crate::text::End;
-use crate::{link, text};
+use crate::{ends, link, text};
 use std::io;
 use std::io::Write;
 use yapp::{ReceiverState, SenderState};
@@ -13,18 +13,9 @@ use yapp_receiver::Receiver;
 use yapp_sender::{Sender, SenderAnswer};
 
 #[derive(Clone, Copy)]
-struct Ends {
+struct YappEnds {
     sender: Sender,
     receiver: Receiver,
-    link: Link,
-}
-
-// The ends behind a turn, and what the sender sent in it: the first bytes of to.
-#[derive(Clone, Copy)]
-struct Turned {
-    ends: Ends,
-    to: [u8; 259],
-    sent: usize,
 }
 
 fn receiver_of(before: Saved, room: usize, checks: bool) -> Receiver
@@ -38,13 +29,12 @@ fn receiver_of(before: Saved, room: usize, checks: bool) -> Receiver
 }
 
 #[tactic(auto, unfolding(crate::specs::YappSession::begin))]
-fn begin(before: Saved, checks: bool, name: &[u8], left: usize, size: usize, room: usize) -> Ends
-    ensures { result ≡ begin_of before checks name.now left size room }
+fn begin(before: Saved, checks: bool, name: &[u8], size: usize, room: usize) -> YappEnds
+    ensures { result ≡ begin_of before checks name.now size room }
 {
-    Ends {
+    YappEnds {
         sender: Sender::begin(name, size, 256, stamp_of(checks), true),
         receiver: receiver_of(before, room, checks),
-        link: link::whole(left, false),
     }
 }
 
@@ -68,92 +58,6 @@ fn send(
         return sender.transmit(file, out);
     }
     sender.receive(came, file, out)
-}
-
-// The ends behind the sender's answer: what it sent, if anything, goes over the link to the receiver.
-fn take(receiver: Receiver, a: SenderAnswer, link: Link, to: &[u8; 259], area: &mut [u8]) -> Ends
-    ensures { carried receiver (record { answer = a; reply = to.now }) link area.old ≡ record { ends = result; area = area.new } }
-{
-    let mut back = [0; 259];
-    let packet = fields::part(to, 0, a.sent);
-    let b = receiver.receive(link::passed(link, packet), area, &mut back);
-    Ends {
-        sender: a.sender,
-        receiver: b.receiver,
-        link: link::with_answer(link::after(link, a.sent), b.sent, back),
-    }
-}
-
-fn turn(e: Ends, file: &[u8], area: &mut [u8]) -> Turned
-    ensures { turn_of file.now (record { ends = e; area = area.old }) ≡ record { ends = result.ends; area = area.new } }
-{
-    let link = e.link;
-    let back = link.back;
-    let mut to = [0; 259];
-    let came = link::passed(link, link::answer_of(link, &back));
-    let a = send(e.sender, link.answered, came, file, &mut to);
-    let ends = take(e.receiver, a, link::after(link, link.answered), &to, area);
-    Turned {
-        ends,
-        to,
-        sent: a.sent,
-    }
-}
-
-fn show_packet<W: Write>(
-    out: &mut W,
-    link: Link,
-    from: End,
-    packet: &[u8],
-    checked: bool,
-) -> io::Result<()> {
-    link::show_sent(out, link, from, text::packet_word(packet, checked), packet)
-}
-
-// A turn of the ends e: the answer on its way, and what it makes of the sender; then what that sends, and what it makes of the receiver.
-fn show_turn<W: Write>(out: &mut W, e: Ends, t: Turned) -> io::Result<()> {
-    let Turned { ends, to, sent } = t;
-    let back = e.link.back;
-    let answer = link::answer_of(e.link, &back);
-    show_packet(out, e.link, End::Receiver, answer, false)?;
-    text::show_step(out, End::Sender, e.sender.state(), ends.sender.state())?;
-    let rest = link::after(e.link, e.link.answered);
-    let packet = fields::part(&to, 0, sent);
-    show_packet(out, rest, End::Sender, packet, e.receiver.checked())?;
-    text::show_step(
-        out,
-        End::Receiver,
-        e.receiver.state(),
-        ends.receiver.state(),
-    )
-}
-
-fn sender_ended(state: SenderState) -> bool
-    ensures { result ≡ sender_ended state }
-{
-    matches!(state, SenderState::Ended { .. })
-}
-
-fn receiver_ended(state: ReceiverState) -> bool
-    ensures { result ≡ receiver_ended state }
-{
-    matches!(state, ReceiverState::Ended { .. })
-}
-
-#[tactic(auto, unfolding(crate::specs::YappSession::is_over))]
-fn is_over(e: Ends) -> bool
-    ensures { result ≡ is_over e }
-{
-    e.link.broken || receiver_ended(e.receiver.state()) && sender_ended(e.sender.state())
-}
-
-// The operator stops a sender whose link is broken: it ends when nothing answers.
-fn end_sender<W: Write>(out: &mut W, sender: Sender, file: &[u8]) -> io::Result<()> {
-    let mut reply = [0; 259];
-    let a = sender.cancel(file, &mut reply).sender;
-    let b = a.timeout(file, &mut reply).sender;
-    text::show_step(out, End::Sender, sender.state(), a.state())?;
-    text::show_step(out, End::Sender, a.state(), b.state())
 }
 
 fn time_out(receiver: Receiver, area: &[u8]) -> Receiver
@@ -184,18 +88,92 @@ fn saved(receiver: Receiver) -> Saved
     }
 }
 
-// The timer of a receiver whose link is broken: it aborts, and ends when nothing answers.
-fn end_receiver<W: Write>(out: &mut W, receiver: Receiver, area: &[u8]) -> io::Result<Saved>
-    ensures { IfOk result (λ s. s ≡ saved_after receiver area.now) }
-{
-    let aborting = time_out(receiver, area);
-    let ended = time_out(aborting, area);
-    text::show_step(out, End::Receiver, receiver.state(), aborting.state())?;
-    text::show_step(out, End::Receiver, aborting.state(), ended.state())?;
-    Ok(saved(ended))
+impl Ends for YappEnds {
+    type Sender = SenderState;
+
+    type Receiver = ReceiverState;
+
+    ghost sends = { sent };
+
+    ghost takes = { taken };
+
+    ghost ended = { have_ended };
+
+    ghost saves = { λ e. saved_after e.receiver };
+
+    fn sender(self) -> SenderState {
+        self.sender.state()
+    }
+
+    fn receiver(self) -> ReceiverState {
+        self.receiver.state()
+    }
+
+    #[tactic(auto, unfolding(crate::specs::YappSession::sent))]
+    fn send(self, answered: usize, came: &[u8], file: &[u8]) -> Sent<Self> {
+        let mut bytes = [0; 259];
+        let a = send(self.sender, answered, came, file, &mut bytes);
+        Sent {
+            ends: YappEnds {
+                sender: a.sender,
+                ..self
+            },
+            count: a.sent,
+            bytes,
+        }
+    }
+
+    #[tactic(auto, unfolding(crate::specs::YappSession::taken))]
+    fn take(self, came: &[u8], area: &mut [u8]) -> Sent<Self> {
+        let mut bytes = [0; 259];
+        let b = self.receiver.receive(came, area, &mut bytes);
+        Sent {
+            ends: YappEnds {
+                receiver: b.receiver,
+                ..self
+            },
+            count: b.sent,
+            bytes,
+        }
+    }
+
+    fn sent_word(self, bytes: &[u8]) -> &'static str {
+        text::packet_word(bytes, self.receiver.checked())
+    }
+
+    fn answer_word(self, bytes: &[u8]) -> &'static str {
+        text::packet_word(bytes, false)
+    }
+
+    #[tactic(auto, unfolding(crate::specs::YappSession::have_ended))]
+    fn have_ended(self) -> bool {
+        matches!(self.receiver.state(), ReceiverState::Ended { .. })
+            && matches!(self.sender.state(), SenderState::Ended { .. })
+    }
+
+    // It ends when nothing answers.
+    fn end_sender<W: Write>(self, out: &mut W, file: &[u8]) -> io::Result<()> {
+        let mut reply = [0; 259];
+        let sender = self.sender;
+        let a = sender.cancel(file, &mut reply).sender;
+        let b = a.timeout(file, &mut reply).sender;
+        text::show_step(out, End::Sender, sender.state(), a.state())?;
+        text::show_step(out, End::Sender, a.state(), b.state())
+    }
+
+    // It aborts, and ends when nothing answers.
+    #[tactic(auto, unfolding(crate::specs::YappSession::saved_after))]
+    fn end_receiver<W: Write>(self, out: &mut W, area: &[u8]) -> io::Result<Saved> {
+        let receiver = self.receiver;
+        let aborting = time_out(receiver, area);
+        let ended = time_out(aborting, area);
+        text::show_step(out, End::Receiver, receiver.state(), aborting.state())?;
+        text::show_step(out, End::Receiver, aborting.state(), ended.state())?;
+        Ok(saved(ended))
+    }
 }
 
-// A session of a file that goes on from what the one before left. An end that has ended takes no call any more.
+// A session of a file that goes on from what the one before left.
 pub fn session<W: Write>(
     out: &mut W,
     before: Saved,
@@ -207,15 +185,6 @@ pub fn session<W: Write>(
 ) -> io::Result<Saved>
     ensures { Session before checks name.now left file.now area.old result area.new }
 {
-    let mut e = begin(before, checks, name, left, file.len(), area.len());
-    for _ in 0..MOST_TURNS {
-        if is_over(e) {
-            break;
-        }
-        let t = turn(e, file, area);
-        show_turn(out, e, t)?;
-        e = t.ends;
-    }
-    end_sender(out, e.sender, file)?;
-    end_receiver(out, e.receiver, area)
+    let ends = begin(before, checks, name, file.len(), area.len());
+    ends::session(out, ends, link::whole(left, false), file, area)
 }
