@@ -183,8 +183,8 @@ fn cut_bin<W: Write>(out: &mut W, file: &[u8]) -> io::Result<()> {
 // ---- Ends set to unlike readings
 
 fn put_numbers<W: Write>(out: &mut W, s: Saved) -> io::Result<()> {
-    put_number(out, b": sender ", s.sender as usize)?;
-    put_number(out, b", receiver ", s.receiver as usize)?;
+    put_number(out, b": sender ", usize::from(s.sender))?;
+    put_number(out, b", receiver ", usize::from(s.receiver))?;
     put(out, b"\n")
 }
 

@@ -116,6 +116,7 @@ fn feed<W: Write>(out: &mut W, lister: Lister, s: &[u8]) -> io::Result<Lister> {
     let mut l = lister;
     let mut line = [0; 32];
     let mut rest = s;
+    // A step takes as many bytes as it finds, so there is no count of turns to go by.
     while !rest.is_empty() {
         let got = l.step(fields::part(rest, 0, 7), &mut line);
         l = got.lister;
@@ -151,12 +152,17 @@ fn captures<W: Write>(out: &mut W) -> io::Result<()> {
     Ok(())
 }
 
-// Each packet cut behind each of its bytes but the last.
+// A packet cut behind each of its bytes but the last.
+fn cuts<W: Write>(out: &mut W, title: &[u8], packet: &[u8]) -> io::Result<()> {
+    for n in 1..packet.len() {
+        list(out, title, &packet[..n])?;
+    }
+    Ok(())
+}
+
 fn packets<W: Write>(out: &mut W) -> io::Result<()> {
     for Case { title, capture } in PACKETS {
-        for n in 1..capture.len() {
-            list(out, title, &capture[..n])?;
-        }
+        cuts(out, title, capture)?;
     }
     Ok(())
 }

@@ -278,14 +278,14 @@ fn run_sample(rt: &HostRuntime, seed: u64) -> ExitCode {
 
 fn run_seeded(rt: &HostRuntime, path: &str, seed: &str) -> ExitCode {
     match digit_reader::read_size(seed.as_bytes()) {
-        Some(n) => run(rt, path, n as u64),
+        Some(n) => run(rt, path, u64::from(n)),
         None => refuse(rt, "", "a seed is a number of at most 8 digits"),
     }
 }
 
 // The seed is 1 where none is given.
 fn start(rt: &HostRuntime, path: &str, seed: Option<String>) -> ExitCode {
-    if path.is_empty() || 4095 < path.len() {
+    if !(1..=4095).contains(&path.len()) {
         return refuse(rt, "", "a path has 1 to 4095 bytes");
     }
     match seed {
