@@ -1,7 +1,10 @@
 -- A session of #BIN# over the program's link: what its ends do in a turn, the beginning, and what is left at the end. The reply buffers are 259 zeros each time.
-use Rattle.std.specs.Prelude.{ℕ, ◌&&◌, Bool, true, false, List, length, take, replicate, eqb, Result}
+use Rattle.std.specs.Prelude.{ℕ, ◌&&◌, Bool, true, false, List, codes, length, take, replicate, eqb, Result}
 use Rattle.fields.specs.Pick.{pick}
 use Rattle.calls.specs.Recording.{record_answer, record_left}
+use Rattle.lines.specs.Frame.{frame_of}
+use Rattle.bin.specs.declared.SenderState.{SenderState}
+use Rattle.bin.specs.declared.SenderState.TheVariants.{Start, Wait, Send, Ended as SenderEnded}
 use Rattle.bin.specs.declared.ReceiverState.{ReceiverState}
 use Rattle.bin.specs.declared.ReceiverState.TheVariants.{Waiting, Basic, Extended, Ended}
 use Rattle.bin.specs.Steps.{sender_ended, receiver_ended}
@@ -12,6 +15,7 @@ use Rattle.bin_receiver.specs.declared.Receiver.{Receiver}
 use Rattle.bin_receiver.specs.Receiver.{ReceiverAfter, fresh, resume, receive as receiver_receives, timeout, record_by}
 use Rattle.calls.specs.Count.{record_count}
 use Rattle.transfer.specs.Link.{file_stamp, whole, is_success as outcome_is_success}
+use Rattle.transfer.specs.Words.{frame_word}
 use Rattle.transfer.specs.Session.{Sent, Taken, turn, is_over, saved_at, Answered}
 use Rattle.transfer.specs.declared.link.Saved.{Saved}
 use Rattle.transfer.specs.declared.bin_link.BinEnds.{BinEnds}
@@ -47,6 +51,21 @@ begin before name size room = record {
   sender = begin_sender name size 256 file_stamp true Bare;
   receiver = receiver_of before room;
 }
+
+-- ---- the words of what is sent and of what is answered, which a line shows
+
+-- in the midst of the file all is data
+abbrev pub word_in : SenderState → List ℕ → List ℕ
+word_in Start b = frame_word (frame_of b)
+word_in Wait b = frame_word (frame_of b)
+word_in (Send at) b = codes "data"
+word_in (SenderEnded o) b = frame_word (frame_of b)
+
+abbrev pub sent_word : BinEnds → List ℕ → List ℕ
+sent_word e b = word_in e.sender.core.state b
+
+abbrev pub answer_word : List ℕ → List ℕ
+answer_word b = frame_word (frame_of b)
 
 -- ---- the end
 

@@ -11,6 +11,8 @@ use Rattle.yapp_receiver.specs.declared.Receiver.{Receiver}
 use Rattle.yapp_receiver.specs.Receiver.{ReceiverAfter, fresh, resume, receive as receiver_receives, timeout, record_by}
 use Rattle.calls.specs.Count.{record_count}
 use Rattle.transfer.specs.Link.{file_stamp, whole, is_success as outcome_is_success}
+use Rattle.packets.specs.Packet.{packet_of}
+use Rattle.transfer.specs.Words.{packet_word}
 use Rattle.transfer.specs.Session.{Sent, Taken, turn, is_over, saved_at, Answered}
 use Rattle.transfer.specs.declared.link.Saved.{Saved}
 use Rattle.transfer.specs.declared.yapp_link.YappEnds.{YappEnds}
@@ -51,6 +53,14 @@ begin before checks name size room = record {
   sender = begin_sender name size 256 (stamp_of checks) true;
   receiver = receiver_of before room checks;
 }
+
+-- ---- the words of what is sent and of what is answered, which a line shows
+
+abbrev pub sent_word : YappEnds → List ℕ → List ℕ
+sent_word e b = packet_word (packet_of e.receiver.reader.checked b)
+
+abbrev pub answer_word : List ℕ → List ℕ
+answer_word b = packet_word (packet_of false b)
 
 -- ---- the end
 

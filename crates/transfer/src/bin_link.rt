@@ -1,6 +1,6 @@
 // A #BIN# sender and a #BIN# receiver; the link between them carries a frame whole or not at all.
 ghost use Rattle.std.specs.Prelude.{◌≡◌};
-ghost use Rattle.transfer.specs.BinSession.{sends, sent, taken, have_ended, receiver_of, begin as begin_of, is_success, saved_of, saved_after, Session};
+ghost use Rattle.transfer.specs.BinSession.{sends, sent, taken, have_ended, receiver_of, begin as begin_of, is_success, saved_of, saved_after, sent_word, answer_word, Session};
 
 use crate::ends::{Ends, Sent};
 use crate::link::Saved;
@@ -93,6 +93,10 @@ impl Ends for BinEnds {
     ghost ended = { have_ended };
 
     ghost saves = { λ e. saved_after e.receiver };
+
+    ghost sent_words = { sent_word };
+
+    ghost answer_words = { answer_word };
 
     fn sender(self) -> SenderState {
         self.sender.state()

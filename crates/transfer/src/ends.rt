@@ -30,6 +30,10 @@ pub trait Ends: Copy {
 
     ghost saves: { Saves Self };
 
+    ghost sent_words: { Self → List ℕ → List ℕ };
+
+    ghost answer_words: { List ℕ → List ℕ };
+
     fn sender(self) -> Self::Sender;
 
     fn receiver(self) -> Self::Receiver;
@@ -43,10 +47,12 @@ pub trait Ends: Copy {
         ensures { takes self came.now area.old ≡ record { ends = result.ends; count = result.count; bytes = result.bytes; area = area.new } };
 
     // The word of what the sender sends.
-    fn sent_word(self, bytes: &[u8]) -> &'static str;
+    fn sent_word(self, bytes: &[u8]) -> &'static str
+        ensures { result.now ≡ sent_words self bytes.now };
 
     // The word of what the receiver answers.
-    fn answer_word(self, bytes: &[u8]) -> &'static str;
+    fn answer_word(self, bytes: &[u8]) -> &'static str
+        ensures { result.now ≡ answer_words bytes.now };
 
     fn have_ended(self) -> bool
         ensures { result ≡ ended self };

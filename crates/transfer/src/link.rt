@@ -1,6 +1,8 @@
 // The link between two ends: it carries so many bytes, and then it breaks.
-ghost use Rattle.std.specs.Prelude.{◌≡◌, take};
+ghost use Rattle.std.specs.Prelude.{◌≡◌, OnOk, length, take};
+ghost use Rattle.std.specs.Io.KnownBytes.{Appends};
 ghost use Rattle.transfer.specs.Link.{nothing as nothing_of, whole as whole_of, after as after_of, with_answer, is_success, of_frame, passed as passed_of};
+ghost use Rattle.transfer.specs.Words.{sent_text};
 
 use crate::text;
 use crate::text::End;
@@ -127,6 +129,8 @@ pub fn show_sent<W: Write>(
     from: End,
     word: &str,
     bytes: &[u8],
-) -> io::Result<()> {
+) -> io::Result<()>
+    ensures { OnOk result (Appends (W.contents out.old) (W.contents out.new) (sent_text from word.now (length bytes.now) (length (passed_of link bytes.now)))) }
+{
     text::show_sent(out, from, word, bytes.len(), passed(link, bytes).len())
 }

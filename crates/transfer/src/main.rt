@@ -5,6 +5,7 @@
 #![tactic(auto)]
 
 ghost use Rattle.std.specs.Prelude.{◌≡◌, length};
+ghost use Rattle.std.specs.Process.{exit_status};
 
 use fields::names;
 use link::Saved;
@@ -208,7 +209,9 @@ fn words_of(text: &str) -> &str {
 }
 
 // Says what failed, and why. Where there is no memory for the words, std's own stand there.
-fn fail(rt: &HostRuntime, what: &str, why: io::Error) -> ExitCode {
+fn fail(rt: &HostRuntime, what: &str, why: io::Error) -> ExitCode
+    ensures { exit_status result ≡ 1 }
+{
     let _ = match why.to_string(rt.alloc()) {
         Ok(text) => {
             let words = words_of(text.as_str());
@@ -220,7 +223,9 @@ fn fail(rt: &HostRuntime, what: &str, why: io::Error) -> ExitCode {
 }
 
 // Says why the program does not do what it was asked for. That is no failure.
-fn refuse(rt: &HostRuntime, word: &str, what: &str) -> ExitCode {
+fn refuse(rt: &HostRuntime, word: &str, what: &str) -> ExitCode
+    ensures { exit_status result ≡ 0 }
+{
     let _ = eprintln!(rt; "transfer: {word}{what}");
     ExitCode::SUCCESS
 }

@@ -1,7 +1,14 @@
 // The lines of the transcript.
+ghost use Rattle.std.specs.Prelude.{◌≡◌, ℕ, List, Option, OnOk, length};
+ghost use Rattle.std.specs.Io.KnownBytes.{Appends};
+ghost use Rattle.calls.specs.declared.Outcome.{Outcome};
+ghost use Rattle.packets.specs.Packet.{packet_of};
+ghost use Rattle.lines.specs.Frame.{frame_of};
+ghost use Rattle.transfer.specs.Words.{head, arrow, sender_word, sender_outcome, receiver_word, receiver_outcome, bin_sender_word, bin_sender_outcome, bin_receiver_word, bin_receiver_outcome, packet_word, frame_word, flaw_words, outcome_words, outcome_text, state_text, move_text, step_text, break_text, sent_text};
+
 use bin::{ReceiverState as BinReceiverState, SenderState as BinSenderState};
 use calls::{Outcome, outcomes};
-use fields::Flaw;
+use fields::{Flaw, names};
 use lines::{Frame, line_reader};
 use packets::{Packet, packet_reader};
 use std::io;
@@ -16,30 +23,45 @@ pub enum End {
 }
 
 impl End {
-    fn word(self) -> &'static str {
+    // How the line of its step begins. With the spaces round it, since each piece that is printed is a write.
+    fn head(self) -> &'static str
+        ensures { result.now ≡ head self }
+    {
         match self {
-            End::Sender => "sender",
-            End::Receiver => "receiver",
+            End::Sender => "    sender ",
+            End::Receiver => "    receiver ",
         }
     }
 
     // Which way its bytes go.
-    fn arrow(self) -> &'static str {
+    fn arrow(self) -> &'static str
+        ensures { result.now ≡ arrow self }
+    {
         match self {
-            End::Sender => ">",
-            End::Receiver => "<",
+            End::Sender => "> ",
+            End::Receiver => "< ",
         }
     }
 }
 
 // A state of an end: its word, and the outcome where it has one.
 pub trait State: Copy {
-    fn word(self) -> &'static str;
+    ghost word_of: { Self → List ℕ };
 
-    fn outcome(self) -> Option<Outcome>;
+    ghost outcome_of: { Self → Option Outcome };
+
+    fn word(self) -> &'static str
+        ensures { result.now ≡ word_of self };
+
+    fn outcome(self) -> Option<Outcome>
+        ensures { result ≡ outcome_of self };
 }
 
 impl State for SenderState {
+    ghost word_of = { sender_word };
+
+    ghost outcome_of = { sender_outcome };
+
     fn word(self) -> &'static str {
         match self {
             SenderState::S { .. } => "S",
@@ -61,6 +83,10 @@ impl State for SenderState {
 }
 
 impl State for ReceiverState {
+    ghost word_of = { receiver_word };
+
+    ghost outcome_of = { receiver_outcome };
+
     fn word(self) -> &'static str {
         match self {
             ReceiverState::R => "R",
@@ -80,6 +106,10 @@ impl State for ReceiverState {
 }
 
 impl State for BinSenderState {
+    ghost word_of = { bin_sender_word };
+
+    ghost outcome_of = { bin_sender_outcome };
+
     fn word(self) -> &'static str {
         match self {
             BinSenderState::Start => "start",
@@ -98,6 +128,10 @@ impl State for BinSenderState {
 }
 
 impl State for BinReceiverState {
+    ghost word_of = { bin_receiver_word };
+
+    ghost outcome_of = { bin_receiver_outcome };
+
     fn word(self) -> &'static str {
         match self {
             BinReceiverState::Waiting => "waiting",
@@ -115,7 +149,9 @@ impl State for BinReceiverState {
     }
 }
 
-fn flaw_words(flaw: Flaw) -> &'static str {
+fn flaw_words(flaw: Flaw) -> &'static str
+    ensures { result.now ≡ flaw_words flaw }
+{
     match flaw {
         Flaw::NameOpen => "no closing byte behind the name",
         Flaw::NameLength => "name empty or too long",
@@ -127,7 +163,9 @@ fn flaw_words(flaw: Flaw) -> &'static str {
     }
 }
 
-fn outcome_words(outcome: Outcome) -> &'static str {
+fn outcome_words(outcome: Outcome) -> &'static str
+    ensures { result.now ≡ outcome_words outcome }
+{
     match outcome {
         Outcome::Success => "success",
         Outcome::RecordUnreadable => "record unreadable",
@@ -152,26 +190,53 @@ fn outcome_words(outcome: Outcome) -> &'static str {
     }
 }
 
-fn show_state<W: Write, S: State>(out: &mut W, state: S) -> io::Result<()> {
-    out.write_all(state.word().as_bytes())?;
-    if let Some(outcome) = state.outcome() {
-        let number = outcomes::outcome_number(outcome);
-        let words = outcome_words(outcome);
-        write!(out, ", {number} {words}")?;
+fn show_outcome<W: Write>(out: &mut W, outcome: Option<Outcome>) -> io::Result<()>
+    ensures { OnOk result (Appends (W.contents out.old) (W.contents out.new) (outcome_text outcome)) }
+{
+    match outcome {
+        Some(outcome) => {
+            let number = outcomes::outcome_number(outcome);
+            write!(out, ", {number} {}", outcome_words(outcome))
+        }
+        None => Ok(()),
     }
-    Ok(())
 }
 
-// An end's step from one state to another. One that stays in its state has no line.
-pub fn show_step<W: Write, S: State>(out: &mut W, end: End, before: S, after: S) -> io::Result<()> {
-    if before.word() == after.word() {
-        return Ok(());
-    }
-    write!(out, "    {} ", end.word())?;
+fn show_state<W: Write, S: State>(out: &mut W, state: S) -> io::Result<()>
+    ensures { OnOk result (Appends (W.contents out.old) (W.contents out.new) (state_text (S.word_of state) (S.outcome_of state))) }
+{
+    out.write_all(state.word().as_bytes())?;
+    show_outcome(out, state.outcome())
+}
+
+fn show_move<W: Write, S: State>(out: &mut W, end: End, before: S, after: S) -> io::Result<()>
+    ensures { OnOk result (Appends (W.contents out.old) (W.contents out.new) (move_text end (S.word_of before) (S.outcome_of before) (S.word_of after) (S.outcome_of after))) }
+{
+    out.write_all(end.head().as_bytes())?;
     show_state(out, before)?;
     out.write_all(b" to ")?;
     show_state(out, after)?;
     out.write_all(b"\n")
+}
+
+// An end's step from one state to another. One that stays in its state has no line.
+pub fn show_step<W: Write, S: State>(out: &mut W, end: End, before: S, after: S) -> io::Result<()>
+    ensures { OnOk result (Appends (W.contents out.old) (W.contents out.new) (step_text end (S.word_of before) (S.outcome_of before) (S.word_of after) (S.outcome_of after))) }
+{
+    if names::same(before.word().as_bytes(), after.word().as_bytes()) {
+        return Ok(());
+    }
+    show_move(out, end, before, after)
+}
+
+// Where the link breaks, if not all of the bytes pass.
+fn show_break<W: Write>(out: &mut W, count: usize, passed: usize) -> io::Result<()>
+    ensures { OnOk result (Appends (W.contents out.old) (W.contents out.new) (break_text count passed)) }
+{
+    if passed < count {
+        return write!(out, ", the link breaks after {passed}");
+    }
+    Ok(())
 }
 
 // What an end sends, if it has any bytes: its word, how many bytes it has, and how many of them pass.
@@ -181,19 +246,21 @@ pub fn show_sent<W: Write>(
     word: &str,
     count: usize,
     passed: usize,
-) -> io::Result<()> {
+) -> io::Result<()>
+    ensures { OnOk result (Appends (W.contents out.old) (W.contents out.new) (sent_text from word.now count passed)) }
+{
     if count == 0 {
         return Ok(());
     }
-    write!(out, "{} {word} {count} bytes", from.arrow())?;
-    if passed < count {
-        write!(out, ", the link breaks after {passed}")?;
-    }
+    write!(out, "{}{word} {count} bytes", from.arrow())?;
+    show_break(out, count, passed)?;
     out.write_all(b"\n")
 }
 
 // The word of a packet.
-pub fn packet_word(bytes: &[u8], checked: bool) -> &'static str {
+pub fn packet_word(bytes: &[u8], checked: bool) -> &'static str
+    ensures { result.now ≡ packet_word (packet_of checked bytes.now) }
+{
     match packet_reader::packet_of(bytes, checked) {
         Packet::RR => "RR",
         Packet::RF => "RF",
@@ -218,7 +285,9 @@ pub fn packet_word(bytes: &[u8], checked: bool) -> &'static str {
 }
 
 // The word of a frame that is not of the file.
-pub fn frame_word(bytes: &[u8]) -> &'static str {
+pub fn frame_word(bytes: &[u8]) -> &'static str
+    ensures { result.now ≡ frame_word (frame_of bytes.now) }
+{
     match line_reader::frame_of(bytes) {
         Frame::Basic(_) | Frame::Extended(_) => "line",
         Frame::MalformedLine(_) => "malformed line",

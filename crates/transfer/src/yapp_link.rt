@@ -1,6 +1,6 @@
 // A YAPP sender and a YAPP receiver.
 ghost use Rattle.std.specs.Prelude.{◌≡◌};
-ghost use Rattle.transfer.specs.YappSession.{sends, sent, taken, have_ended, receiver_of, stamp_of, begin as begin_of, is_success, saved_of, timed_out, saved_after, Session};
+ghost use Rattle.transfer.specs.YappSession.{sends, sent, taken, have_ended, receiver_of, stamp_of, begin as begin_of, is_success, saved_of, timed_out, saved_after, sent_word, answer_word, Session};
 
 use crate::ends::{Ends, Sent};
 use crate::link::Saved;
@@ -100,6 +100,10 @@ impl Ends for YappEnds {
     ghost ended = { have_ended };
 
     ghost saves = { λ e. saved_after e.receiver };
+
+    ghost sent_words = { sent_word };
+
+    ghost answer_words = { answer_word };
 
     fn sender(self) -> SenderState {
         self.sender.state()
