@@ -6,19 +6,18 @@ use Prim.Native.Nat.{ℕ, zero, suc, ◌≤◌, ◌+◌, ◌-◌, ◌*◌, ◌/�
 use native.Mathlib.Nat.{zero-add, div-add-mod'}
 use native.Mathlib.Numerals.{add-one}
 use native.Mathlib.Omega.{arith}
-use Rattle.std.proofs.Math.Seq.{take-suc}
 use lib.Dec.{eqb, lit<}
-use lib.ListN.{length, replicate, get_or, set, take}
+use lib.ListN.{length, replicate, get_or, set}
 use mathlib.Core.Bool.{Bool, true, false}
 use borrow.Author.Tests.{eqb-true, eqb-false}
-use lib.Seq.{take_all, get_or-set_same, get_or-set_other}
+use lib.Seq.{get_or-set_same, get_or-set_other}
 use lib.Bits.{bit_xor, xor_lt, xor_shifted, xor_zero_l, xor_zero_r}
 use Rattle.crc.specs.declared.Reading.{Reading}
 use Rattle.crc.specs.declared.Reading.TheVariants.{Bare, Augmented}
 use Rattle.crc.specs.Crc.{reduced, remainder, entry, listed, byte_step, walk_from}
 use Rattle.crc.specs.Rows.{times, rows_at, row_of, AreRows, eight_steps}
 use Rattle.crc.proofs.Table.{listed-from}
-use Rattle.crc.proofs.Laws.{step-lt, walk-lt, walk-more}
+use Rattle.crc.proofs.Laws.{step-lt}
 use Rattle.crc.proofs.Xor.{xor-swap, mix, mix-late}
 use Rattle.crc.proofs.Times.{times-lt, times-xor, times-add}
 
@@ -77,14 +76,21 @@ rows_next i h =
     let m : j % 256 ≡ i % 256 = omega arith in
     step-zero r l ∙ times-add 8 (8 * (j / 256)) (j % 256) ∙ ap (λ (n : ℕ). times n (j % 256)) e ∙ ap (times (8 * (i / 256))) m
 
--- row 0 has the bytes themselves; a step with 0 leads from a row to the next
-pub row-first : (b : ℕ) → b ≡ times (8 * 0) b
-row-first b = sym (times_none b)
+-- the first row has the bytes themselves
+pub rows-first : (i : ℕ) → i < 256 → i ≡ rows_at i
+unfolding rows_at
+rows-first i h =
+    let e : 0 ≡ 8 * (i / 256) = omega arith in
+    let m : i ≡ i % 256 = omega arith in
+    sym (times_none i) ∙ ap (λ (n : ℕ). times n i) e ∙ ap (times (8 * (i / 256))) m
 
-pub row-next : (j b x : ℕ) → 0 < j → b < 256 → x ≡ times (8 * (j - 1)) b → byte_step Bare x 0 ≡ times (8 * j) b
-row-next j b x p h e =
-    let k : 8 + 8 * (j - 1) ≡ 8 * j = omega arith in
-    ap (λ (n : ℕ). byte_step Bare n 0) e ∙ step-zero (times (8 * (j - 1)) b) (times-lt (8 * (j - 1)) b (omega arith)) ∙ times-add 8 (8 * (j - 1)) b ∙ ap (λ (n : ℕ). times n b) k
+-- an entry of the rows, by where its row starts
+pub rows_row : (at k b : ℕ) → at ≡ 32 * k → at % 256 ≡ 0 → b < 256 → rows_at (at + b) ≡ times k b
+unfolding rows_at
+rows_row at k b s z h =
+    let e : 8 * ((at + b) / 256) ≡ k = omega arith in
+    let m : (at + b) % 256 ≡ b = omega arith in
+    ap (λ (n : ℕ). times n ((at + b) % 256)) e ∙ ap (times k) m
 
 -- eight steps: r and each byte times a power of x of its own
 pub eight : (q : Reading) (r a b c d e f g h : ℕ) → r < 2 ^ 16 → a < 256 → b < 256 → c < 256 → d < 256 → e < 256 → f < 256 → g < 256 → h < 256
@@ -102,74 +108,66 @@ eight q r a b c d e f g h hr ha hb hc hd he hf hg hh =
     rw (step-times q r7 h (step-lt q r6 g hg) hh, times-step q 8 r6 g (step-lt q r5 f hf) hg, times-step q 16 r5 f (step-lt q r4 e he) hf, times-step q 24 r4 e (step-lt q r3 d hd) he, times-step q 32 r3 d (step-lt q r2 c hc) hd, times-step q 40 r2 c (step-lt q r1 b hb) hc, times-step q 48 r1 b (step-lt q r a ha) hb, times-step q 56 r a hr ha)
     (mix-late (times 64 r) (times (56 + 8 * row_of q) a) (times (48 + 8 * row_of q) b ∷ times (40 + 8 * row_of q) c ∷ times (32 + 8 * row_of q) d ∷ times (24 + 8 * row_of q) e ∷ times (16 + 8 * row_of q) f ∷ times (8 + 8 * row_of q) g ∷ times (8 * row_of q) h ∷ []))
 
--- a walk over s from a xor b: b goes on times x^8 for each byte
-walk-xor : (q : Reading) (a b : ℕ) (s : List ℕ) → a < 2 ^ 16 → b < 2 ^ 16 → ((i : ℕ) → get_or s i 0 < 256)
-    → walk_from q (bit_xor a b) s ≡ bit_xor (walk_from q a s) (times (8 * length s) b)
+-- r times x^64 by what was looked up for its two bytes
+pub shifted : (r th tl : ℕ) → r < 2 ^ 16 → th ≡ rows_at (2304 + r / 256) → tl ≡ rows_at (2048 + r % 256) → bit_xor th tl ≡ times 64 r
+shifted r th tl h eh el =
+    rw (eh ∙ rows_row 2304 72 (r / 256) refl refl (omega arith), el ∙ rows_row 2048 64 (r % 256) refl refl (omega arith)) (sym (times-parts 64 r h))
+
+-- what is looked up for the first i bytes, where row j is that of the last of eight
+abbrev pub looked_up : ℕ → List ℕ → ℕ → ℕ
+looked_up j s zero = 0
+looked_up j s (suc i) = bit_xor (looked_up j s i) (rows_at (256 * (j + 7 - i) + get_or s i 0))
+
+pub looked_more : (j : ℕ) (s : List ℕ) (i x y : ℕ) → x ≡ looked_up j s i → y ≡ rows_at (256 * (j + 7 - i) + get_or s i 0) → bit_xor x y ≡ looked_up j s (i + 1)
+looked_more j s i x y e f = rw add-one (ap₂ bit_xor e f)
+
+-- eight steps by what was looked up in the rows
+pub eight-rows : (q : Reading) (r : ℕ) (s : List ℕ) (j x tr : ℕ) → j ≡ row_of q → r < 2 ^ 16 → ((i : ℕ) → get_or s i 0 < 256) → x ≡ looked_up j s 8 → tr ≡ times 64 r
+    → bit_xor x tr ≡ eight_steps q r (get_or s 0 0) (get_or s 1 0) (get_or s 2 0) (get_or s 3 0) (get_or s 4 0) (get_or s 5 0) (get_or s 6 0) (get_or s 7 0)
+eight-rows q r s j x tr z hr hs e er =
+    let a = get_or s 0 0 in
+    let b = get_or s 1 0 in
+    let c = get_or s 2 0 in
+    let d = get_or s 3 0 in
+    let f = get_or s 4 0 in
+    let g = get_or s 5 0 in
+    let k = get_or s 6 0 in
+    let l = get_or s 7 0 in
+    rw (e, er, rows_row (256 * (j + 7 - 0)) (56 + 8 * row_of q) a (omega arith) (omega arith) (hs 0), rows_row (256 * (j + 7 - 1)) (48 + 8 * row_of q) b (omega arith) (omega arith) (hs 1), rows_row (256 * (j + 7 - 2)) (40 + 8 * row_of q) c (omega arith) (omega arith) (hs 2), rows_row (256 * (j + 7 - 3)) (32 + 8 * row_of q) d (omega arith) (omega arith) (hs 3), rows_row (256 * (j + 7 - 4)) (24 + 8 * row_of q) f (omega arith) (omega arith) (hs 4), rows_row (256 * (j + 7 - 5)) (16 + 8 * row_of q) g (omega arith) (omega arith) (hs 5), rows_row (256 * (j + 7 - 6)) (8 + 8 * row_of q) k (omega arith) (omega arith) (hs 6), rows_row (256 * (j + 7 - 7)) (8 * row_of q) l (omega arith) (omega arith) (hs 7), xor_zero_l (times (56 + 8 * row_of q) a))
+    (sym (eight q r a b c d f g k l hr (hs 0) (hs 1) (hs 2) (hs 3) (hs 4) (hs 5) (hs 6) (hs 7)))
+
+-- and they are the walk over the eight
+pub walk-eight : (q : Reading) (r : ℕ) (s : List ℕ) → length s ≡ 8
+    → eight_steps q r (get_or s 0 0) (get_or s 1 0) (get_or s 2 0) (get_or s 3 0) (get_or s 4 0) (get_or s 5 0) (get_or s 6 0) (get_or s 7 0) ≡ walk_from q r s
 unfolding walk_from
-walk-xor q a b [] ha hb hs = ap (bit_xor a) (sym (times_none b))
-walk-xor q a b (c ∷ s) ha hb hs =
-    let x = times (8 * row_of q) c in
-    let e : byte_step q (bit_xor a b) c ≡ bit_xor (byte_step q a c) (times 8 b) =
-    step-times q (bit_xor a b) c (xor_lt 16 a b ha hb) (hs 0) ∙ ap (λ (n : ℕ). bit_xor n x) (times-xor 8 a b ha hb)
-    ∙ xor-swap (times 8 a) (times 8 b) x ∙ ap (λ (n : ℕ). bit_xor n (times 8 b)) (sym (step-times q a c ha (hs 0))) in
-    let m : 8 * length s + 8 ≡ 8 * length (c ∷ s) = omega arith in
-    ap (λ (n : ℕ). walk_from q n s) e ∙ walk-xor q (byte_step q a c) (times 8 b) s (step-lt q a c (hs 0)) (times-lt 8 b hb) (λ i. hs (suc i))
-    ∙ ap (bit_xor (walk_from q (byte_step q a c) s)) (times-add (8 * length s) 8 b ∙ ap (λ (n : ℕ). times n b) m)
-
--- so the value before eight bytes waits, and goes in times x^64
-pub walk-eight : (q : Reading) (r : ℕ) (s : List ℕ) (x : ℕ) → r < 2 ^ 16 → ((i : ℕ) → get_or s i 0 < 256) → length s ≡ 8
-    → x ≡ walk_from q 0 s → (ti tj : ℕ) → ti ≡ times 72 (r / 256) → tj ≡ times 64 (r % 256) → bit_xor x (bit_xor ti tj) ≡ walk_from q r s
-walk-eight q r s x h hs l e ti tj ei ej =
-    rw (e, ei, ej, sym (times-parts 64 r h))
-    (ap (λ (n : ℕ). bit_xor (walk_from q 0 s) (times (8 * n) r)) (sym l) ∙ sym (walk-xor q 0 r s (lit< tt) h hs) ∙ ap (λ (n : ℕ). walk_from q n s) (xor_zero_l r))
-
--- the walk over the first i of eight bytes, times what is left to the last of them
-abbrev pub ahead : Reading → List ℕ → ℕ → ℕ
-ahead q s i = times (8 * (8 - i)) (walk_from q 0 (take i s))
-
-times-zero : (k : ℕ) → times k 0 ≡ 0
-unfolding times reduced
-times-zero zero = refl
-times-zero (suc k) = ap (λ (n : ℕ). reduced (n * 2)) (times-zero k)
-
-pub ahead-first : (q : Reading) (s : List ℕ) → 0 ≡ ahead q s 0
-unfolding walk_from
-ahead-first q s = sym (times-zero 64)
-
-take-bytes : (i : ℕ) (s : List ℕ) → ((k : ℕ) → get_or s k 0 < 256) → (k : ℕ) → get_or (take i s) k 0 < 256
-take-bytes zero s hs k = lit< tt
-take-bytes (suc i) [] hs k = lit< tt
-take-bytes (suc i) (c ∷ s) hs zero = hs 0
-take-bytes (suc i) (c ∷ s) hs (suc k) = take-bytes i s (λ j. hs (suc j)) k
-
-pub ahead-next : (q : Reading) (s : List ℕ) (i x y : ℕ) → ((k : ℕ) → get_or s k 0 < 256) → i < 8 → i < length s
-    → x ≡ ahead q s i → y ≡ times (8 * (row_of q + 7 - i)) (get_or s i 0) → bit_xor x y ≡ ahead q s (i + 1)
-ahead-next q s i x y hs h l e f =
-    let c = get_or s i 0 in
-    let w = walk_from q 0 (take i s) in
-    let k = 8 * (8 - suc i) in
-    let m : 8 * (8 - i) ≡ k + 8 = omega arith in
-    let n : 8 * (row_of q + 7 - i) ≡ k + 8 * row_of q = omega arith in
-    rw (add-one, take-suc s i 0 l, walk-more q 0 (take i s) c)
-    (ap₂ bit_xor (e ∙ ap (λ (j : ℕ). times j w) m) (f ∙ ap (λ (j : ℕ). times j c) n) ∙ sym (times-step q k w c (walk-lt q 0 (take i s) (lit< tt) (take-bytes i s hs)) (hs i)))
-
-pub ahead-all : (q : Reading) (s : List ℕ) (i x : ℕ) → i ≡ 8 → length s ≡ 8 → x ≡ ahead q s i → x ≡ walk_from q 0 s
-ahead-all q s i x h l e =
-    e ∙ ap (ahead q s) (h ∙ sym l) ∙ ap (λ (k : ℕ). times (8 * (8 - k)) (walk_from q 0 (take (length s) s))) l ∙ times_none (walk_from q 0 (take (length s) s)) ∙ ap (walk_from q 0) (take_all (length s) s (omega arith))
+walk-eight q r (a ∷ b ∷ c ∷ d ∷ e ∷ f ∷ g ∷ h ∷ []) l = refl
+walk-eight q r (a ∷ b ∷ c ∷ d ∷ e ∷ f ∷ g ∷ h ∷ i ∷ s) l = absurd (omega arith)
+walk-eight q r (a ∷ b ∷ c ∷ d ∷ e ∷ f ∷ g ∷ []) l = absurd (omega arith)
+walk-eight q r (a ∷ b ∷ c ∷ d ∷ e ∷ f ∷ []) l = absurd (omega arith)
+walk-eight q r (a ∷ b ∷ c ∷ d ∷ e ∷ []) l = absurd (omega arith)
+walk-eight q r (a ∷ b ∷ c ∷ d ∷ []) l = absurd (omega arith)
+walk-eight q r (a ∷ b ∷ c ∷ []) l = absurd (omega arith)
+walk-eight q r (a ∷ b ∷ []) l = absurd (omega arith)
+walk-eight q r (a ∷ []) l = absurd (omega arith)
+walk-eight q r [] l = absurd (omega arith)
 
 -- the rows so far, and one row more, each of whose entries is got by a step with 0
 pub rows_first : (row : List ℕ) → ((b : ℕ) → b < 256 → get_or row b 0 ≡ b) → AreRows 1 (replicate 10 row)
-rows_first row h zero l b k = h b k ∙ row-first b
+rows_first row h zero l b k =
+    let e : b ≡ 256 * 0 + b = omega arith in
+    h b k ∙ rows-first b k ∙ ap rows_at e
 rows_first row h (suc j) l b k = absurd (omega arith)
 
 pub rows_more : (rows : List (List ℕ)) (j : ℕ) (row : List ℕ) → AreRows j rows → 0 < j → j < length rows
     → ((b : ℕ) → b < 256 → get_or row b 0 ≡ byte_step Bare (get_or (get_or rows (j - 1) []) b 0) 0) → AreRows (j + 1) (set rows j row)
 rows_more rows j row h p l e k hk b hb = go (eqb k j) refl
   where
-    go : (t : Bool) → eqb k j ≡ t → get_or (get_or (set rows j row) k []) b 0 ≡ times (8 * k) b
+    go : (t : Bool) → eqb k j ≡ t → get_or (get_or (set rows j row) k []) b 0 ≡ rows_at (256 * k + b)
     go true x =
         let z : k ≡ j = eqb-true k j x in
-        rw (z, get_or-set_same rows j row [] l) (e b hb ∙ row-next j b _ p hb (h (j - 1) (omega arith) b hb))
+        let m : 256 * (j - 1) + b ≡ 256 * j + b - 256 = omega arith in
+        rw (z, get_or-set_same rows j row [] l)
+        (e b hb ∙ ap (λ (n : ℕ). byte_step Bare n 0) (h (j - 1) (omega arith) b hb ∙ ap rows_at m) ∙ rows_next (256 * j + b) (omega arith))
     go false x =
         let z : k ≡ j → ⊥ = eqb-false k j x in
         rw (get_or-set_other rows j k row [] z) (h k (omega (arith, z)) b hb)

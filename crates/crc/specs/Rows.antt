@@ -1,7 +1,7 @@
--- Only contracts of private functions cite this.
+-- Only contracts of private functions and the invariant of the private `Rows` cite this.
 -- Ten rows of remainders, by which the walk takes eight bytes at a time (change requests 2026-03, 2026-06).
 -- Assumes nothing.
-use Rattle.std.specs.Prelude.{◌≡◌, List, [], ℕ, zero, suc, ◌*◌, ◌/◌, ◌%◌, ◌<◌, get_or}
+use Rattle.std.specs.Prelude.{◌≡◌, List, [], ℕ, zero, suc, ◌+◌, ◌*◌, ◌/◌, ◌%◌, ◌<◌, get_or}
 use Rattle.crc.specs.declared.Reading.{Reading}
 use Rattle.crc.specs.declared.Reading.TheVariants.{Bare, Augmented}
 use Rattle.crc.specs.Crc.{reduced, byte_step}
@@ -20,9 +20,9 @@ abbrev pub row_of : Reading → ℕ
 row_of Bare = 0
 row_of Augmented = 2
 
--- the first n of the rows: row j has the remainders of the bytes times x^(8 j), so row 2 is the table
+-- the first n of the rows: byte b of row j is entry 256 j + b
 abbrev pub AreRows : ℕ → List (List ℕ) → Type 0
-AreRows n rows = (j : ℕ) → j < n → (b : ℕ) → b < 256 → get_or (get_or rows j []) b 0 ≡ times (8 * j) b
+AreRows n rows = (j : ℕ) → j < n → (b : ℕ) → b < 256 → get_or (get_or rows j []) b 0 ≡ rows_at (256 * j + b)
 
 -- the steps of eight bytes
 abbrev pub eight_steps : Reading → ℕ → ℕ → ℕ → ℕ → ℕ → ℕ → ℕ → ℕ → ℕ → ℕ

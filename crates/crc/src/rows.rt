@@ -1,7 +1,7 @@
 // Ten rows of remainders, made from the table, by which a long walk takes eight bytes at a time.
-ghost use Rattle.std.specs.Prelude.{ℕ, get_or, ◌*◌, ◌≤◌, ◌<◌, ◌≡◌};
+ghost use Rattle.std.specs.Prelude.{ℕ, get_or, ◌+◌, ◌*◌, ◌≤◌, ◌<◌, ◌≡◌};
 ghost use Rattle.crc.specs.Crc.{byte_step, walk_from};
-ghost use Rattle.crc.specs.Rows.{times, row_of, AreRows};
+ghost use Rattle.crc.specs.Rows.{rows_at, row_of, AreRows, eight_steps};
 
 use crate::Reading;
 use std::array;
@@ -48,14 +48,15 @@ impl Rows {
     // The remainder of b times x^(8 j).
     fn at(&self, j: usize, b: u8) -> u16
         requires { j < 10 }
-        ensures { result ≡ times (8 * j) b }
+        ensures { result ≡ rows_at (256 * j + b) }
     {
         self.rows[j][usize::from(b)]
     }
 
     // Eight bytes at once: their remainders are looked up apart, and what waits for r comes last.
     fn step_eight(&self, reading: Reading, r: u16, eight: &[u8; 8]) -> u16
-        ensures { result ≡ walk_from reading r eight.now }
+        ensures steps { result ≡ eight_steps reading r (get_or eight.now 0 0) (get_or eight.now 1 0) (get_or eight.now 2 0) (get_or eight.now 3 0) (get_or eight.now 4 0) (get_or eight.now 5 0) (get_or eight.now 6 0) (get_or eight.now 7 0) }
+        ensures walked { result ≡ walk_from reading r eight.now }
     {
         let last = last_row(reading);
         let mut bytes = 0;

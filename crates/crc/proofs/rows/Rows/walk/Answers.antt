@@ -8,4 +8,4 @@ pub loop-eight-preserved : goal.loop-eight-preserved
 loop-eight-preserved c =
     let l = c.loop-eight in
     let p = c.in-Some.ensures.cases in
-    rw (l.invariant, walk-cut c.args.reading l.crc 8 l.rest.now, c.step_eight-crc.ensures, p.0, p.1) refl
+    rw (l.invariant, walk-cut c.args.reading l.crc 8 l.rest.now, c.step_eight-crc.ensures.walked, p.0, p.1) refl
