@@ -2,6 +2,7 @@
 -- Assumes nothing.
 use Rattle.std.proofs.Common.{◌≡◌, refl, ap, ◌∙◌}
 use native.Mathlib.Omega.{arith}
+use Rattle.std.proofs.lemmas.Grind.{common_steps}
 use Rattle.crc.proofs.Eight.{shifted, looked_up, looked_more, eight-rows, walk-eight}
 use Rattle.crc.proofs.rows.Rows.step_eight.Goals as goal
 
@@ -11,7 +12,7 @@ loop-i-init c = refl
 pub loop-i-preserved : goal.loop-i-preserved
 loop-i-preserved c =
     let l = c.loop-i in
-    looked_more c.last_row-last.result c.args.eight.now l.i l.bytes c.at-bytes.result l.invariant c.at-bytes.ensures
+    looked_more c.last_row-last.result c.args.eight.now l.i l.bytes c.at-bytes.result l.invariant (grind (arith, common_steps))
 
 pub returns : goal.returns
 returns c =
