@@ -1,16 +1,17 @@
 -- Eight bytes at once, by the rows.
 -- Assumes nothing.
 use mathlib.Core.Path.{◌≡◌, refl, sym, ap, ap₂, ◌∙◌}
-use mathlib.Core.List.{List, [], ◌∷◌}
+use mathlib.Core.List.{List, [], ◌∷◌, ◌++◌}
 use Prim.Native.Nat.{ℕ, zero, suc, ◌≤◌, ◌+◌, ◌-◌, ◌*◌, ◌/◌, ◌%◌, ◌^◌, ◌<◌}
 use native.Mathlib.Nat.{zero-add, div-add-mod'}
 use native.Mathlib.Numerals.{add-one}
 use native.Mathlib.Omega.{arith}
 use lib.Dec.{eqb, lit<}
-use lib.ListN.{length, replicate, get_or, set}
+use lib.ListN.{length, get_or, get_or-append, set}
+use Rattle.std.proofs.lemmas.List.{get_or-append_right}
 use mathlib.Core.Bool.{Bool, true, false}
 use borrow.Author.Tests.{eqb-true, eqb-false}
-use lib.Seq.{get_or-set_same, get_or-set_other}
+use lib.Seq.{get_or-set_same}
 use lib.Bits.{bit_xor, xor_lt, xor_shifted, xor_zero_l, xor_zero_r}
 use Rattle.crc.specs.declared.Reading.{Reading}
 use Rattle.crc.specs.declared.Reading.TheVariants.{Bare, Augmented}
@@ -152,22 +153,27 @@ walk-eight q r (a ∷ []) l = absurd (omega arith)
 walk-eight q r [] l = absurd (omega arith)
 
 -- the rows so far, and one row more, each of whose entries is got by a step with 0
-pub rows_first : (row : List ℕ) → ((b : ℕ) → b < 256 → get_or row b 0 ≡ b) → AreRows 1 (replicate 10 row)
-rows_first row h zero l b k =
+pub rows_first : (rows : List (List ℕ)) (row : List ℕ) → 0 < length rows → ((b : ℕ) → b < 256 → get_or row b 0 ≡ b) → AreRows 1 (set rows 0 row)
+rows_first rows row p h zero l b k =
     let e : b ≡ 256 * 0 + b = omega arith in
-    h b k ∙ rows-first b k ∙ ap rows_at e
-rows_first row h (suc j) l b k = absurd (omega arith)
+    rw (get_or-set_same rows 0 row [] p) (h b k ∙ rows-first b k ∙ ap rows_at e)
+rows_first rows row p h (suc j) l b k = absurd (omega arith)
 
-pub rows_more : (rows : List (List ℕ)) (j : ℕ) (row : List ℕ) → AreRows j rows → 0 < j → j < length rows
-    → ((b : ℕ) → b < 256 → get_or row b 0 ≡ byte_step Bare (get_or (get_or rows (j - 1) []) b 0) 0) → AreRows (j + 1) (set rows j row)
-rows_more rows j row h p l e k hk b hb = go (eqb k j) refl
+pub rows_more : (front back : List (List ℕ)) (j : ℕ) (row : List ℕ) → AreRows j (front ++ back) → 0 < j → length front ≡ j → 0 < length back
+    → ((b : ℕ) → b < 256 → get_or row b 0 ≡ byte_step Bare (get_or (get_or front (j - 1) []) b 0) 0) → AreRows (j + 1) (front ++ set back 0 row)
+rows_more front back j row h p n l e k hk b hb = go (eqb k j) refl
   where
-    go : (t : Bool) → eqb k j ≡ t → get_or (get_or (set rows j row) k []) b 0 ≡ rows_at (256 * k + b)
+    before : (i : ℕ) → i < j → get_or (get_or front i []) b 0 ≡ rows_at (256 * i + b)
+    before i hi = ap (λ (r : List ℕ). get_or r b 0) (sym (get_or-append front back [] i (omega arith))) ∙ h i hi b hb
+
+    go : (t : Bool) → eqb k j ≡ t → get_or (get_or (front ++ set back 0 row) k []) b 0 ≡ rows_at (256 * k + b)
     go true x =
         let z : k ≡ j = eqb-true k j x in
         let m : 256 * (j - 1) + b ≡ 256 * j + b - 256 = omega arith in
-        rw (z, get_or-set_same rows j row [] l)
-        (e b hb ∙ ap (λ (n : ℕ). byte_step Bare n 0) (h (j - 1) (omega arith) b hb ∙ ap rows_at m) ∙ rows_next (256 * j + b) (omega arith))
+        let o : j - j ≡ 0 = omega arith in
+        rw (z, get_or-append_right front (set back 0 row) j j [] n (omega arith), o, get_or-set_same back 0 row [] l)
+        (e b hb ∙ ap (λ (n : ℕ). byte_step Bare n 0) (before (j - 1) (omega arith) ∙ ap rows_at m) ∙ rows_next (256 * j + b) (omega arith))
     go false x =
         let z : k ≡ j → ⊥ = eqb-false k j x in
-        rw (get_or-set_other rows j k row [] z) (h k (omega (arith, z)) b hb)
+        let y : k < j = omega (arith, z) in
+        rw (get_or-append front (set back 0 row) [] k (omega arith)) (before k y)

@@ -85,7 +85,8 @@ fn walk_by_ones(reading: Reading, r: u16, s: &[u8]) -> u16
 fn walk_by_eights(reading: Reading, r: u16, s: &[u8]) -> u16
     ensures { result ≡ walk_from reading r s.now }
 {
-    Rows::new().walk(reading, r, s)
+    let mut rows = [[0; 256]; 10];
+    Rows::new(&mut rows).walk(reading, r, s)
 }
 
 // From this length on the walk by eight bytes at a time, whose rows are made first, is faster.

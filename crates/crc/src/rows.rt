@@ -8,9 +8,9 @@ use std::array;
 
 // Row j has the remainder of each byte times x^(8 j), so row 2 is the table.
 #[derive(Drop)]
-pub struct Rows {
-    rows: [[u16; 256]; 10],
-    ghost made: { AreRows 10 rows },
+pub struct Rows<'a> {
+    rows: &'a [[u16; 256]; 10],
+    ghost made: { AreRows 10 rows.now },
 }
 
 // The row in which the last byte of eight is looked up, each byte before it a row further up. By the new reading bytes go in times x^16, so two
@@ -24,23 +24,22 @@ fn last_row(reading: Reading) -> usize
     }
 }
 
-// The row after: a step with 0 leads from each entry to the next row's. By a loop, since an array's `map` makes the rows too slowly.
-fn next_row(row: &[u16; 256]) -> [u16; 256]
-    ensures { (b : ℕ) → b < 256 → get_or result b 0 ≡ byte_step Reading.Bare (get_or row.now b 0) 0 }
+// Makes the row after: a step with 0 leads from each entry to the next row's. By a loop, since an array's `map` makes the rows too slowly.
+fn next_row(row: &[u16; 256], next: &mut [u16; 256])
+    ensures { (b : ℕ) → b < 256 → get_or next.new b 0 ≡ byte_step Reading.Bare (get_or row.now b 0) 0 }
 {
-    let mut next = [0; 256];
     for (b, &r) in row.iter().enumerate() {
         next[b] = crate::step(Reading::Bare, r, 0);
     }
-    next
 }
 
-impl Rows {
-    // Row 0 has the bytes themselves.
-    pub fn new() -> Self {
-        let mut rows = [array::from_fn(|b| b as u16); 10];
+impl<'a> Rows<'a> {
+    // Row 0 has the bytes themselves. They are made in the caller's array, since one that is handed out is copied.
+    pub fn new(rows: &'a mut [[u16; 256]; 10]) -> Self {
+        rows[0] = array::from_fn(|b| b as u16);
         for j in 1..10 {
-            rows[j] = next_row(&rows[j - 1]);
+            let (before, from) = rows.split_at_mut(j);
+            next_row(&before[j - 1], &mut from[0]);
         }
         Rows { rows }
     }
