@@ -39,15 +39,18 @@ none_bytes at d = sym (append-none at d).1
 pub name_fits : (name : List ℕ) → is_name name ≡ true → length name ≤ 64
 name_fits name h = (name-length name h).1
 
--- what `check` lets pass
-pub accepted : (d : List ℕ) (b : Bool) {u : Unit {0}} → pick (ltb (length d) 259) (Err Small) (pick b (Ok tt) (Err Formless)) ≡ Ok u
-    → (259 ≤ length d) × (b ≡ true)
-accepted d b {u} e = go (ltb (length d) 259) refl b e
+-- what `check_room` lets pass
+pub has_room : (d : List ℕ) {u : Unit {0}} → pick (ltb (length d) 259) (Err Small) (Ok tt) ≡ Ok u → 259 ≤ length d
+has_room d {u} e = go (ltb (length d) 259) refl e
   where
-    go : (t : Bool) → ltb (length d) 259 ≡ t → (b : Bool) → pick t (Err Small) (pick b (Ok tt) (Err Formless)) ≡ Ok u → (259 ≤ length d) × (b ≡ true)
-    go true p b e = never (ap is_ok e)
-    go false p true e = (ltb-false _ _ p, refl)
-    go false p false e = never (ap is_ok e)
+    go : (t : Bool) → ltb (length d) 259 ≡ t → pick t (Err Small) (Ok tt) ≡ Ok u → 259 ≤ length d
+    go true p e = never (ap is_ok e)
+    go false p e = ltb-false _ _ p
+
+-- what `check_form` lets pass
+pub has_form : (b : Bool) {u : Unit {0}} → pick b (Ok tt) (Err Formless) ≡ Ok u → b ≡ true
+has_form true e = refl
+has_form false e = never (ap is_ok e)
 
 -- a number and the byte behind it
 size-short : (n x : ℕ) → n ≤ 99999999 → length (decimal n ++ (x ∷ [])) ≤ 9

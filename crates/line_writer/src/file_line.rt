@@ -22,7 +22,8 @@ fn put_size(reply: &mut [u8], size: u32, end: u8) -> usize
 pub fn write_basic(reply: &mut [u8], size: u32) -> Result<usize, WriteError>
     ensures { (result ≡ written_of 259 (basic_form size) reply.old) × (reply.new ≡ left_of 259 (basic_form size) reply.old) }
 {
-    crate::check(reply, size as usize <= Limits::FILE)?;
+    crate::check_room(reply)?;
+    crate::check_form(size as usize <= Limits::FILE)?;
     Ok(put_size(reply, size, b'\r'))
 }
 
@@ -50,7 +51,8 @@ pub fn write_line(
 ) -> Result<usize, WriteError>
     ensures { (result ≡ written_of 259 (line_form size crc stamp resumable name.now) reply.old) × (reply.new ≡ left_of 259 (line_form size crc stamp resumable name.now) reply.old) }
 {
-    crate::check(reply, crate::is_file(name, size))?;
+    crate::check_room(reply)?;
+    crate::check_form(crate::is_file(name, size))?;
     let sized = put_size(reply, size, b'#');
     let crc_start = buffers::append_byte(reply, sized, b'|');
     let crc_end = numerals::append_decimal(reply, crc_start, u64::from(crc), b'#');

@@ -14,13 +14,22 @@ pub mod file_line;
 pub mod ok_writer;
 pub mod refusal_writer;
 
-// Whether an element may be written: first whether the reply has room, then whether the element has a form.
-fn check(reply: &[u8], has_form: bool) -> Result<(), WriteError>
-    ensures { result ≡ pick (ltb (length reply.now) 259) (Err Small) (pick has_form (Ok tt) (Err Formless)) }
+// Whether the reply has room. It is asked before the element's form, which may take a look at each byte of a name.
+fn check_room(reply: &[u8]) -> Result<(), WriteError>
+    ensures { result ≡ pick (ltb (length reply.now) 259) (Err Small) (Ok tt) }
 {
     if reply.len() < Limits::REPLY {
         Err(WriteError::Small)
-    } else if has_form {
+    } else {
+        Ok(())
+    }
+}
+
+// Whether an element has a form.
+fn check_form(has_form: bool) -> Result<(), WriteError>
+    ensures { result ≡ pick has_form (Ok tt) (Err Formless) }
+{
+    if has_form {
         Ok(())
     } else {
         Err(WriteError::Formless)
@@ -29,9 +38,9 @@ fn check(reply: &[u8], has_form: bool) -> Result<(), WriteError>
 
 // Whether a file can have this name and this size.
 fn is_file(name: &[u8], size: u32) -> bool
-    ensures { result ≡ (is_name name.now && leb size 99999999) }
+    ensures { result ≡ (leb size 99999999 && is_name name.now) }
 {
-    names::is_name(name) && size as usize <= Limits::FILE
+    size as usize <= Limits::FILE && names::is_name(name)
 }
 
 // A mark, a text and what follows it. By index, as the writers of `fields` and `numbers` are.

@@ -11,7 +11,7 @@ use numbers::numerals;
 pub fn write_ok(reply: &mut [u8]) -> Result<usize, WriteError>
     ensures { (result ≡ written_of 259 (bytes_form (ok_bytes [])) reply.old) × (reply.new ≡ left_of 259 (bytes_form (ok_bytes [])) reply.old) }
 {
-    crate::check(reply, true)?;
+    crate::check_room(reply)?;
     Ok(buffers::put_bytes(reply, b"#OK#\r"))
 }
 
@@ -20,7 +20,8 @@ pub fn write_ok(reply: &mut [u8]) -> Result<usize, WriteError>
 pub fn write_ok_name(reply: &mut [u8], name: &[u8]) -> Result<usize, WriteError>
     ensures { (result ≡ written_of 259 (ok_name_form name.now) reply.old) × (reply.new ≡ left_of 259 (ok_name_form name.now) reply.old) }
 {
-    crate::check(reply, names::is_name(name))?;
+    crate::check_room(reply)?;
+    crate::check_form(names::is_name(name))?;
     Ok(crate::put_text(reply, b"#OK#", name, b"\r"))
 }
 
@@ -34,7 +35,8 @@ pub fn write_ok_kept(
 ) -> Result<usize, WriteError>
     ensures { (result ≡ written_of 259 (ok_kept_form name.now kept crc) reply.old) × (reply.new ≡ left_of 259 (ok_kept_form name.now kept crc) reply.old) }
 {
-    crate::check(reply, crate::is_file(name, kept))?;
+    crate::check_room(reply)?;
+    crate::check_form(crate::is_file(name, kept))?;
     let kept_start = crate::put_text(reply, b"#OK#", name, b"#$");
     let crc_start = numerals::append_decimal(reply, kept_start, u64::from(kept), b'#');
     Ok(numerals::append_decimal(reply, crc_start, u64::from(crc), b'\r'))

@@ -11,7 +11,8 @@ use fields::{WriteError, buffers};
 pub fn write_no(reply: &mut [u8], text: &[u8]) -> Result<usize, WriteError>
     ensures { (result ≡ written_of 259 (no_form text.now) reply.old) × (reply.new ≡ left_of 259 (no_form text.now) reply.old) }
 {
-    crate::check(reply, text.len() <= 80)?;
+    crate::check_room(reply)?;
+    crate::check_form(text.len() <= 80)?;
     Ok(crate::put_text(reply, b"#NO#", text, b"\r"))
 }
 
@@ -20,6 +21,6 @@ pub fn write_no(reply: &mut [u8], text: &[u8]) -> Result<usize, WriteError>
 pub fn write_stop(reply: &mut [u8]) -> Result<usize, WriteError>
     ensures { (result ≡ written_of 259 (bytes_form stop_frame) reply.old) × (reply.new ≡ left_of 259 (bytes_form stop_frame) reply.old) }
 {
-    crate::check(reply, true)?;
+    crate::check_room(reply)?;
     Ok(buffers::put_bytes(reply, b"\r#ABORT#\r"))
 }
