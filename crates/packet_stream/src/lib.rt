@@ -74,11 +74,13 @@ impl Reader {
         ensures fed { feed self.old.checked self.old.pending self.old.filled 0 chunk.now ≡ record { pending = self.new.pending; filled = self.new.filled; taken = result.0; found = result.1 } }
         ensures mode { self.new.checked ≡ self.old.checked }
     {
+        let checked = self.checked;
+        let mut n = self.filled;
         for (i, &x) in chunk.iter().enumerate() {
-            let at = slot(self.filled);
+            let at = slot(n);
             self.pending[at] = x;
-            self.filled = at + 1;
-            match spans::span_of(&self.pending[..self.filled], self.checked) {
+            n = at + 1;
+            match spans::span_of(&self.pending[..n], checked) {
                 Span::Open => {}
                 found => {
                     self.filled = 0;
@@ -86,6 +88,7 @@ impl Reader {
                 }
             }
         }
+        self.filled = n;
         (chunk.len(), Span::Open)
     }
 
@@ -96,8 +99,12 @@ impl Reader {
         let mut reader = self;
         let (taken, found) = reader.fill(chunk);
         let packet = packet_reader::packet_in(found, &reader.pending, reader.checked);
+        // By its fields: moved as a whole, a reader is copied by a slower path at each call.
         Received {
-            reader,
+            reader: Reader {
+                pending: reader.pending,
+                ..reader
+            },
             taken,
             found,
             packet,

@@ -37,7 +37,9 @@ fn header_read(d: &[u8]) -> Option<Header>
     })
 }
 
-// The packet that a header is.
+// The packet that a header is. Not inlined, since a function clears its locals as it begins: one that reads a stream's packets and holds all of
+// this clears its pending bytes for each, though headers are rare.
+#[inline(never)]
 pub fn header_packet(d: &[u8]) -> Packet
     ensures { result ≡ header_packet d.now }
 {

@@ -19,7 +19,8 @@ fn is_sound(checked: bool, place: Place, b: &[u8]) -> bool
     crate::checksum(data) == fields::byte_at(rest, place.len)
 }
 
-// A NAK whose data are not a resume is a Not Ready. By `let .. else`, as document 01 asks.
+// A NAK whose data are not a resume is a Not Ready. By `let .. else`, as document 01 asks. Not inlined, for the reason that a header is not.
+#[inline(never)]
 fn nak_packet(d: &[u8], place: Place) -> Packet
     ensures { result ≡ nak_by (resume_read d.now) place }
 {

@@ -27,9 +27,10 @@ fn is_paired(first: u8, second: u8) -> bool
     ensures { result ≡ paired first second }
 {
     match first {
-        3 | 4 => second == 1,
-        5 => matches!(second, 1 | 2),
-        6 => matches!(second, 1..=6),
+        3 => second == 1,
+        4 => second == 1,
+        5 => second == 1 || second == 2,
+        6 => 1 <= second && second <= 6,
         _ => true,
     }
 }
@@ -52,9 +53,17 @@ fn whole_length(checked: bool, first: u8, second: u8, third: u8) -> usize
 {
     match first {
         1 | 0x10 | 0x15 | 0x18 => 2 + usize::from(second),
-        2 if checked => data_length(second) + 3,
-        2 => data_length(second) + 2,
-        5 if second == 2 => 3 + usize::from(third),
+        2 => {
+            let data = data_length(second);
+            if checked { data + 3 } else { data + 2 }
+        }
+        5 => {
+            if second == 2 {
+                3 + usize::from(third)
+            } else {
+                2
+            }
+        }
         _ => 2,
     }
 }

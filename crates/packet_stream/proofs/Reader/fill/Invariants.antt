@@ -9,5 +9,5 @@ use Rattle.packet_stream.proofs.Reader.fill.Given as goal
 abbrev pub invariant-loop-i : goal.invariant-loop-i
 invariant-loop-i l = record {
   mode : l.self.checked ≡ l.initial.self.checked;
-  fed : feed l.initial.self.checked l.initial.self.pending l.initial.self.filled 0 l.chunk ≡ feed l.self.checked l.self.pending l.self.filled l.i (drop l.i l.chunk);
+  fed : feed l.initial.self.checked l.initial.self.pending l.initial.self.filled 0 l.chunk ≡ feed l.checked l.self.pending l.n l.i (drop l.i l.chunk);
 }
