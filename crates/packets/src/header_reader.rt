@@ -23,10 +23,10 @@ fn header_read(d: &[u8]) -> Option<Header>
     ensures { result ≡ header_read d.now }
 {
     let (name, rest) = crate::split_at_zero(d)?;
-    let (digits, option) = crate::split_at_zero(rest)?;
     if !names::is_name(name) {
         return None;
     }
+    let (digits, option) = crate::split_at_zero(rest)?;
     Some(Header {
         name: Place {
             start: 2,
