@@ -3,10 +3,12 @@ ghost use Rattle.std.specs.Prelude.{◌≡◌, [], length, OnOk, Some, codes};
 ghost use Rattle.std.specs.Io.KnownBytes.{Appends};
 ghost use Rattle.std.specs.List.{flat_map};
 ghost use Rattle.fields.specs.Lists.{part};
+ghost use Rattle.numbers.specs.Writing.{hex};
 ghost use Rattle.script.specs.Printing.{numbered, shown, text, pair, IsChanged, changed_from, changed_to, change_text, Stored, Touched, outcome_text, status_text, record_text};
 
 use calls::{Outcome, Refusal, outcomes};
 use fields::WriteError;
+use numbers::hex_writer;
 use std::io;
 use std::io::Write;
 
@@ -23,14 +25,26 @@ pub fn put_number<W: Write>(out: &mut W, label: &[u8], n: usize) -> io::Result<(
     write!(out, "{n}")
 }
 
+// Two hex digits. Not by `{c:02X}`, which writes a zero and a digit in two pieces.
+fn hex_pair(c: u8) -> [u8; 2]
+    ensures { result ≡ hex 2 c }
+{
+    let mut digits = [0; 2];
+    hex_writer::fill_hex(&mut digits, u32::from(c));
+    digits
+}
+
 // A printable byte as it is, any other as `<0D>`.
-#[tactic(auto, using(crate::proofs::Printed::hex_is))]
+#[tactic(auto, unfolding(numbers::specs::Writing::hex))]
 fn put_byte<W: Write>(out: &mut W, c: u8) -> io::Result<()>
     ensures { OnOk result (Appends (W.contents out.old) (W.contents out.new) (shown c)) }
 {
     match c {
         32..=126 => put(out, &[c]),
-        _ => write!(out, "<{c:02X}>"),
+        _ => {
+            let [high, low] = hex_pair(c);
+            put(out, &[b'<', high, low, b'>'])
+        }
     }
 }
 
@@ -54,11 +68,12 @@ pub fn put_text<W: Write>(out: &mut W, label: &[u8], s: &[u8]) -> io::Result<()>
     put_bytes(out, s)
 }
 
-#[tactic(auto, using(crate::proofs::Printed::hex_is))]
+#[tactic(auto, unfolding(numbers::specs::Writing::hex))]
 fn put_pair<W: Write>(out: &mut W, c: u8) -> io::Result<()>
     ensures { OnOk result (Appends (W.contents out.old) (W.contents out.new) (pair c)) }
 {
-    write!(out, " {c:02X}")
+    let [high, low] = hex_pair(c);
+    put(out, &[b' ', high, low])
 }
 
 // Each byte in hex, with a space before it.
