@@ -180,6 +180,8 @@ fn print_compared<W: Write>(out: &mut W, area: &[u8], file: &[u8]) -> io::Result
     }
 }
 
+// Not inlined, since a function makes room for its locals as it begins: a file that is refused needs no area.
+#[inline(never)]
 fn transfer<W: Write>(
     out: &mut W,
     own: Protocol,
@@ -261,10 +263,10 @@ fn try_all(rt: &HostRuntime, path: &str, seed: u64, file: &[u8]) -> ExitCode {
 
 // Reads up to the end of the file, or one byte more than the largest file has, so that a larger one shows.
 fn read_path(rt: &HostRuntime, path: &str) -> io::Result<Vec<u8>> {
-    let mut file = Vec::new(rt.alloc());
-    File::open(rt, path)?
-        .take(1_048_577)
-        .read_to_end(&mut file)?;
+    let mut source = File::open(rt, path)?;
+    // One place more than is read, so that the end shows without more room being asked for.
+    let mut file = Vec::with_capacity(rt.alloc(), LARGEST + 2)?;
+    source.take(1_048_577).read_to_end(&mut file)?;
     Ok(file)
 }
 
