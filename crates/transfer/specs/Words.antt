@@ -35,7 +35,7 @@ abbrev pub arrow : End → List ℕ
 arrow Sender = codes "> "
 arrow Receiver = codes "< "
 
--- ---- the states of the four ends: their words, and how one ended or aborted
+-- ---- the states of the four ends: their words, with a comma where an outcome follows, and how one ended or aborted
 
 abbrev pub sender_word : SenderState → List ℕ
 sender_word (S begun timeouts) = codes "S"
@@ -43,8 +43,8 @@ sender_word SH = codes "SH"
 sender_word (SD at) = codes "SD"
 sender_word SE = codes "SE"
 sender_word ST = codes "ST"
-sender_word (CW o) = codes "CW"
-sender_word (Ended o) = codes "ended"
+sender_word (CW o) = codes "CW, "
+sender_word (Ended o) = codes "ended, "
 
 abbrev pub sender_outcome : SenderState → Option Outcome
 sender_outcome (S begun timeouts) = None
@@ -59,8 +59,8 @@ abbrev pub receiver_word : ReceiverState → List ℕ
 receiver_word R = codes "R"
 receiver_word (RH whole) = codes "RH"
 receiver_word RD = codes "RD"
-receiver_word (ReceiverCW o) = codes "CW"
-receiver_word (ReceiverEnded o) = codes "ended"
+receiver_word (ReceiverCW o) = codes "CW, "
+receiver_word (ReceiverEnded o) = codes "ended, "
 
 abbrev pub receiver_outcome : ReceiverState → Option Outcome
 receiver_outcome R = None
@@ -73,7 +73,7 @@ abbrev pub bin_sender_word : BinSenderState → List ℕ
 bin_sender_word Start = codes "start"
 bin_sender_word Wait = codes "wait"
 bin_sender_word (Send at) = codes "send"
-bin_sender_word (BinSenderEnded o) = codes "ended"
+bin_sender_word (BinSenderEnded o) = codes "ended, "
 
 abbrev pub bin_sender_outcome : BinSenderState → Option Outcome
 bin_sender_outcome Start = None
@@ -85,7 +85,7 @@ abbrev pub bin_receiver_word : BinReceiverState → List ℕ
 bin_receiver_word Waiting = codes "waiting"
 bin_receiver_word (Basic size kept) = codes "basic"
 bin_receiver_word (Extended crc) = codes "extended"
-bin_receiver_word (BinReceiverEnded o) = codes "ended"
+bin_receiver_word (BinReceiverEnded o) = codes "ended, "
 
 abbrev pub bin_receiver_outcome : BinReceiverState → Option Outcome
 bin_receiver_outcome Waiting = None
@@ -167,7 +167,7 @@ outcome_words Stopped = codes "stopped by the operator"
 
 abbrev pub outcome_text : Option Outcome → List ℕ
 outcome_text None = []
-outcome_text (Some o) = codes ", " ++ (decimal (outcome_number o) ++ (codes " " ++ outcome_words o))
+outcome_text (Some o) = decimal (outcome_number o) ++ (codes " " ++ outcome_words o)
 
 -- a state by its word, and its outcome where it has one
 abbrev pub state_text : List ℕ → Option Outcome → List ℕ

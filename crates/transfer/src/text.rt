@@ -44,7 +44,7 @@ impl End {
     }
 }
 
-// A state of an end: its word, and the outcome where it has one.
+// A state of an end: its word, with a comma where an outcome follows, and the outcome where it has one.
 pub trait State: Copy {
     ghost word_of: { Self → List ℕ };
 
@@ -69,8 +69,8 @@ impl State for SenderState {
             SenderState::SD { .. } => "SD",
             SenderState::SE => "SE",
             SenderState::ST => "ST",
-            SenderState::CW { .. } => "CW",
-            SenderState::Ended { .. } => "ended",
+            SenderState::CW { .. } => "CW, ",
+            SenderState::Ended { .. } => "ended, ",
         }
     }
 
@@ -92,8 +92,8 @@ impl State for ReceiverState {
             ReceiverState::R => "R",
             ReceiverState::RH { .. } => "RH",
             ReceiverState::RD => "RD",
-            ReceiverState::CW { .. } => "CW",
-            ReceiverState::Ended { .. } => "ended",
+            ReceiverState::CW { .. } => "CW, ",
+            ReceiverState::Ended { .. } => "ended, ",
         }
     }
 
@@ -115,7 +115,7 @@ impl State for BinSenderState {
             BinSenderState::Start => "start",
             BinSenderState::Wait => "wait",
             BinSenderState::Send { .. } => "send",
-            BinSenderState::Ended { .. } => "ended",
+            BinSenderState::Ended { .. } => "ended, ",
         }
     }
 
@@ -137,7 +137,7 @@ impl State for BinReceiverState {
             BinReceiverState::Waiting => "waiting",
             BinReceiverState::Basic { .. } => "basic",
             BinReceiverState::Extended { .. } => "extended",
-            BinReceiverState::Ended { .. } => "ended",
+            BinReceiverState::Ended { .. } => "ended, ",
         }
     }
 
@@ -196,7 +196,7 @@ fn show_outcome<W: Write>(out: &mut W, outcome: Option<Outcome>) -> io::Result<(
     match outcome {
         Some(outcome) => {
             let number = outcomes::outcome_number(outcome);
-            write!(out, ", {number} {}", outcome_words(outcome))
+            write!(out, "{number} {}", outcome_words(outcome))
         }
         None => Ok(()),
     }
