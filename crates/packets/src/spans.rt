@@ -68,7 +68,9 @@ fn whole_length(checked: bool, first: u8, second: u8, third: u8) -> usize
     }
 }
 
-// How far the packet at the front of b reaches; checked says whether every DT has a checksum (YappC).
+// How far the packet at the front of b reaches; checked says whether every DT has a checksum (YappC). A reader asks at each byte, and a call
+// there costs as much as the look.
+#[inline(always)]
 #[tactic(auto, unfolding(crate::specs::Span::span_at))]
 pub fn span_of(b: &[u8], checked: bool) -> Span
     ensures { result ≡ span_of checked b.now }

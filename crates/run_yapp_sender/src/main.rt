@@ -84,15 +84,49 @@ fn receive(m: Sender, text: &[u8], file: &[u8], reply: &mut [u8]) -> SenderAnswe
     m.receive(fields::part(&chunk, 0, n), file, reply)
 }
 
-// What came of a call; nothing where the line asks for none.
-fn call(m: Sender, line: &[u8], file: &[u8], reply: &mut [u8]) -> Option<SenderAnswer> {
+// The calls of a sender, as a script names them.
+#[derive(Clone, Copy)]
+enum CallName {
+    Leave,
+    Bytes,
+    Timer,
+    Stop,
+}
+
+// The call that a line asks for, if any.
+fn call_of(line: &[u8]) -> Option<CallName> {
     match word(line, 0) {
-        b"leave" => Some(m.transmit(file, reply)),
-        b"bytes" => Some(receive(m, word(line, 1), file, reply)),
-        b"timer" => Some(m.timeout(file, reply)),
-        b"stop" => Some(m.cancel(file, reply)),
+        b"leave" => Some(CallName::Leave),
+        b"bytes" => Some(CallName::Bytes),
+        b"timer" => Some(CallName::Timer),
+        b"stop" => Some(CallName::Stop),
         _ => None,
     }
+}
+
+// What came of a call.
+fn call(m: Sender, which: CallName, text: &[u8], file: &[u8], reply: &mut [u8]) -> SenderAnswer {
+    match which {
+        CallName::Leave => m.transmit(file, reply),
+        CallName::Bytes => receive(m, text, file, reply),
+        CallName::Timer => m.timeout(file, reply),
+        CallName::Stop => m.cancel(file, reply),
+    }
+}
+
+// Makes a call, and prints what came of it. Not inlined, since a function clears its locals as it begins, and most lines are no calls.
+#[inline(never)]
+fn play<W: Write>(
+    out: &mut W,
+    m: Sender,
+    which: CallName,
+    text: &[u8],
+    file: &[u8],
+    reply: &mut [u8],
+) -> io::Result<Sender> {
+    let got = call(m, which, text, file, reply);
+    show(out, got, reply)?;
+    Ok(got.sender)
 }
 
 // Whether a line begins a sender.
@@ -116,9 +150,8 @@ fn act<W: Write>(
     file: &[u8],
     reply: &mut [u8],
 ) -> io::Result<Sender> {
-    if let Some(got) = call(m, line, file, reply) {
-        show(out, got, reply)?;
-        return Ok(got.sender);
+    if let Some(which) = call_of(line) {
+        return play(out, m, which, word(line, 1), file, reply);
     }
     if is_begin(line) {
         let begun = begin(line);

@@ -11,10 +11,11 @@ use fields::names;
 use link::Saved;
 use numbers::digit_reader;
 use records::{Record, record_reader};
+use std::fmt::Write as _;
 use std::fs::File;
 use std::io::{Read, Write};
 use std::process::ExitCode;
-use std::{env, io};
+use std::{env, fmt, io};
 
 mod bin_link;
 mod ends;
@@ -46,7 +47,14 @@ impl Protocol {
     }
 }
 
-// In a function of its own, or the proof of its length counts a million zeros.
+// One byte more than the largest file, so that a larger one shows. In a function of its own, as the area is, or the proof of its length
+// counts a million zeros.
+fn file_space() -> [u8; 1048577]
+    ensures { 1048577 ≡ length result }
+{
+    [0; 1048577]
+}
+
 fn area_space() -> [u8; 1048576]
     ensures { 1048576 ≡ length result }
 {
@@ -210,10 +218,39 @@ fn words_of(text: &str) -> &str {
         .map_or(text, |(words, _)| words)
 }
 
+// A formatter that takes bytes by a call. Std has some forty words for the kinds of errors and hands each over at a place of its own; with what
+// takes them inlined at each of these places, they are more than a third of the program.
+#[derive(Drop)]
+struct OutOfLine<'a, W>(&'a mut fmt::Formatter<W>);
+
+impl<W: fmt::Write> fmt::Write for OutOfLine<'_, W> {
+    #[inline(never)]
+    fn write_str(&mut self, s: &str) -> fmt::Result {
+        self.0.write_str(s)
+    }
+}
+
+// An error as std prints it.
+#[derive(Clone, Copy)]
+struct Why(io::Error);
+
+impl fmt::Display for Why {
+    fn fmt<W: fmt::Write>(&self, f: &mut fmt::Formatter<W>) -> fmt::Result {
+        write!(OutOfLine(f), "{}", self.0)
+    }
+}
+
+impl fmt::Debug for Why {
+    fn fmt<W: fmt::Write>(&self, f: &mut fmt::Formatter<W>) -> fmt::Result {
+        write!(OutOfLine(f), "{:?}", self.0)
+    }
+}
+
 // Says what failed, and why. Where there is no memory for the words, std's own stand there.
 fn fail(rt: &HostRuntime, what: &str, why: io::Error) -> ExitCode
     ensures { exit_status result ≡ 1 }
 {
+    let why = Why(why);
     let _ = match why.to_string(rt.alloc()) {
         Ok(text) => {
             let words = words_of(text.as_str());
@@ -261,19 +298,21 @@ fn try_all(rt: &HostRuntime, path: &str, seed: u64, file: &[u8]) -> ExitCode {
     }
 }
 
-// Reads up to the end of the file, or one byte more than the largest file has, so that a larger one shows.
-fn read_path(rt: &HostRuntime, path: &str) -> io::Result<Vec<u8>> {
-    let mut source = File::open(rt, path)?;
-    // One place more than is read, so that the end shows without more room being asked for.
-    let mut file = Vec::with_capacity(rt.alloc(), LARGEST + 2)?;
-    source.take(1_048_577).read_to_end(&mut file)?;
-    Ok(file)
+// Reads up to the end of the file, or of the buffer, and returns how many bytes came. Not inlined, so that the chunk by which std copies takes
+// no stack beside the area.
+#[inline(never)]
+fn read_path(rt: &HostRuntime, path: &str, buf: &mut [u8]) -> io::Result<usize> {
+    let mut source = File::open(rt, path)?.take(buf.len() as u64);
+    let mut rest = buf;
+    let count = io::copy(&mut source, &mut rest)?;
+    Ok(count as usize)
 }
 
-// A read that fails is said, and is not the end of the file.
+// A read that fails is said, and is not the end of the file. The file lies in an array beside the area, and takes no memory of the heap.
 fn run(rt: &HostRuntime, path: &str, seed: u64) -> ExitCode {
-    match read_path(rt, path) {
-        Ok(file) => try_all(rt, path, seed, &file),
+    let mut space = file_space();
+    match read_path(rt, path, &mut space) {
+        Ok(count) => try_all(rt, path, seed, fields::part(&space, 0, count)),
         Err(why) => fail(rt, path, why),
     }
 }
@@ -301,8 +340,8 @@ fn start(rt: &HostRuntime, path: &str, seed: Option<String>) -> ExitCode {
     }
 }
 
-fn main(rt: HostRuntime) -> io::Result<ExitCode> {
-    let mut words = env::args(&rt)?.skip(1);
+fn main(rt: HostRuntime) -> Result<ExitCode, Why> {
+    let mut words = env::args(&rt).map_err(Why)?.skip(1);
     let code = match (words.next(), words.next(), words.next()) {
         (None, _, _) => run_sample(&rt, 1),
         (Some(path), seed, None) => start(&rt, path.as_str(), seed),
