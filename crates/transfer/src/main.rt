@@ -298,14 +298,22 @@ fn try_all(rt: &HostRuntime, path: &str, seed: u64, file: &[u8]) -> ExitCode {
     }
 }
 
-// Reads up to the end of the file, or of the buffer, and returns how many bytes came. Not inlined, so that the chunk by which std copies takes
-// no stack beside the area.
+// Reads up to the end of the file, or of the buffer, and returns how many bytes came. Not inlined, so that what opening and reading take of the
+// stack is free again beside the area.
 #[inline(never)]
 fn read_path(rt: &HostRuntime, path: &str, buf: &mut [u8]) -> io::Result<usize> {
-    let mut source = File::open(rt, path)?.take(buf.len() as u64);
+    let mut source = File::open(rt, path)?;
+    let room = buf.len();
     let mut rest = buf;
-    let count = io::copy(&mut source, &mut rest)?;
-    Ok(count as usize)
+    while !rest.is_empty() {
+        let count = source.read(rest)?;
+        if count == 0 {
+            break;
+        }
+        let all = rest;
+        rest = &mut all[count..];
+    }
+    Ok(room - rest.len())
 }
 
 // A read that fails is said, and is not the end of the file. The file lies in an array beside the area, and takes no memory of the heap.
