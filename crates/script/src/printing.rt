@@ -35,15 +35,15 @@ fn hex_pair(c: u8) -> [u8; 2]
 }
 
 // A printable byte as it is, any other as `<0D>`.
-#[tactic(auto, unfolding(numbers::specs::Writing::hex))]
 fn put_byte<W: Write>(out: &mut W, c: u8) -> io::Result<()>
     ensures { OnOk result (Appends (W.contents out.old) (W.contents out.new) (shown c)) }
 {
     match c {
         32..=126 => put(out, &[c]),
         _ => {
-            let [high, low] = hex_pair(c);
-            put(out, &[b'<', high, low, b'>'])
+            put(out, b"<")?;
+            put(out, &hex_pair(c))?;
+            put(out, b">")
         }
     }
 }
@@ -68,12 +68,11 @@ pub fn put_text<W: Write>(out: &mut W, label: &[u8], s: &[u8]) -> io::Result<()>
     put_bytes(out, s)
 }
 
-#[tactic(auto, unfolding(numbers::specs::Writing::hex))]
 fn put_pair<W: Write>(out: &mut W, c: u8) -> io::Result<()>
     ensures { OnOk result (Appends (W.contents out.old) (W.contents out.new) (pair c)) }
 {
-    let [high, low] = hex_pair(c);
-    put(out, &[b' ', high, low])
+    put(out, b" ")?;
+    put(out, &hex_pair(c))
 }
 
 // Each byte in hex, with a space before it.
