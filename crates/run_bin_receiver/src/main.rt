@@ -97,21 +97,63 @@ fn begin<W: Write>(out: &mut W, receiver: Receiver, area: [u8; 32]) -> io::Resul
 
 // ---- Calls
 
-// What came of a call; nothing where the line asks for none.
+// The calls of a receiver, as a script names them.
+#[derive(Clone, Copy)]
+enum CallName {
+    Leave,
+    Frame,
+    Timer,
+    Stop,
+}
+
+// The call that a line asks for, if any.
+fn call_of(line: &[u8]) -> Option<CallName> {
+    match word(line, 0) {
+        b"leave" => Some(CallName::Leave),
+        b"frame" => Some(CallName::Frame),
+        b"timer" => Some(CallName::Timer),
+        b"stop" => Some(CallName::Stop),
+        _ => None,
+    }
+}
+
+// What came of a call.
 fn call(
     m: Receiver,
-    line: &[u8],
+    which: CallName,
     frame: &[u8],
     area: &mut [u8],
     reply: &mut [u8],
-) -> Option<ReceiverAnswer> {
-    match word(line, 0) {
-        b"leave" => Some(m.transmit(area, reply)),
-        b"frame" => Some(m.receive(frame, area, reply)),
-        b"timer" => Some(m.timeout(area, reply)),
-        b"stop" => Some(m.cancel(area, reply)),
-        _ => None,
+) -> ReceiverAnswer {
+    match which {
+        CallName::Leave => m.transmit(area, reply),
+        CallName::Frame => m.receive(frame, area, reply),
+        CallName::Timer => m.timeout(area, reply),
+        CallName::Stop => m.cancel(area, reply),
     }
+}
+
+// Makes a call with the frame that a word says, and prints what came of it. Not inlined, since a function clears its locals as it begins, and
+// most lines are no calls.
+#[inline(never)]
+fn make_call<W: Write>(
+    out: &mut W,
+    p: Play,
+    which: CallName,
+    text: &[u8],
+    reply: &mut [u8],
+) -> io::Result<Play> {
+    let mut space = [0u8; 1200];
+    let n = decode(text, &mut space);
+    let frame = fields::part(&space, 0, n);
+    let mut area = p.area;
+    let got = call(p.receiver, which, frame, &mut area, reply);
+    show(out, got, frame, reply)?;
+    put_stored(out, &p.area, &area)?;
+    Ok(Play {
+        receiver: got.receiver,
+        area,
+    })
 }
 
 fn put_record<W: Write>(out: &mut W, m: Receiver, buf: &mut [u8]) -> io::Result<()> {
@@ -121,21 +163,12 @@ fn put_record<W: Write>(out: &mut W, m: Receiver, buf: &mut [u8]) -> io::Result<
 
 // Does what a line says. With no record the area is filled anew, with one it stays.
 fn act<W: Write>(out: &mut W, p: Play, line: &[u8], reply: &mut [u8]) -> io::Result<Play> {
-    let mut space = [0u8; 1200];
-    let n = decode(word(line, 1), &mut space);
-    let frame = fields::part(&space, 0, n);
-    let mut area = p.area;
-    if let Some(got) = call(p.receiver, line, frame, &mut area, reply) {
-        show(out, got, frame, reply)?;
-        put_stored(out, &p.area, &area)?;
-        return Ok(Play {
-            receiver: got.receiver,
-            area,
-        });
+    if let Some(which) = call_of(line) {
+        return make_call(out, p, which, word(line, 1), reply);
     }
     match word(line, 0) {
         b"fresh" => return begin(out, begin_fresh(line), [0xEE; 32]),
-        b"resume" => return begin(out, begin_resume(line), area),
+        b"resume" => return begin(out, begin_resume(line), p.area),
         b"record" => put_record(out, p.receiver, &mut [0xEE; 81])?,
         b"80" => put_record(out, p.receiver, &mut [0xEE; 80])?,
         _ => {}

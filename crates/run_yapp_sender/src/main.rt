@@ -116,7 +116,7 @@ fn call(m: Sender, which: CallName, text: &[u8], file: &[u8], reply: &mut [u8]) 
 
 // Makes a call, and prints what came of it. Not inlined, since a function clears its locals as it begins, and most lines are no calls.
 #[inline(never)]
-fn play<W: Write>(
+fn make_call<W: Write>(
     out: &mut W,
     m: Sender,
     which: CallName,
@@ -151,7 +151,7 @@ fn act<W: Write>(
     reply: &mut [u8],
 ) -> io::Result<Sender> {
     if let Some(which) = call_of(line) {
-        return play(out, m, which, word(line, 1), file, reply);
+        return make_call(out, m, which, word(line, 1), file, reply);
     }
     if is_begin(line) {
         let begun = begin(line);
