@@ -133,8 +133,8 @@ fn call(
     }
 }
 
-// Makes a call with the frame that a word says, and prints what came of it. Not inlined, since a function clears its locals as it begins, and
-// most lines are no calls.
+// Makes a call with the frame that a word says, and prints what came of it. Not inlined, since a function clears its locals as it begins, and a
+// line that is no call has no use for these.
 #[inline(never)]
 fn make_call<W: Write>(
     out: &mut W,

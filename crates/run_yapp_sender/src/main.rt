@@ -114,7 +114,8 @@ fn call(m: Sender, which: CallName, text: &[u8], file: &[u8], reply: &mut [u8]) 
     }
 }
 
-// Makes a call, and prints what came of it. Not inlined, since a function clears its locals as it begins, and most lines are no calls.
+// Makes a call, and prints what came of it. Not inlined, since a function clears its locals as it begins, and a line that is no call has no use
+// for these.
 #[inline(never)]
 fn make_call<W: Write>(
     out: &mut W,
